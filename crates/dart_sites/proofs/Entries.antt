@@ -1,0 +1,57 @@
+-- The numbered program means what its tree means.
+use Rattle.std.proofs.Common.{◌≡◌, ℕ, zero, suc, ◌+◌, List, [], ◌∷◌, refl, ap, sym, subst, ◌∙◌, arith, Option, Some, None, Bool, true, false, add-one, add-zero}
+use Rattle.std.specs.Prelude.{slice_get, unwrap_or, length, is_some, ◌&&◌}
+use Rattle.std.specs.Str.{bytes_eq}
+use Rattle.std.specs.List.{enumerate_from, list_all}
+use Rattle.program.specs.declared.numbered.Numbered.{Numbered}
+use Rattle.dart_sites.specs.declared.running.PrintCall.{PrintCall}
+use Rattle.program.specs.Lookup.{resolve}
+use Rattle.dart_sites.specs.declared.tree.PrintStmt.{PrintStmt}
+use Rattle.dart_sites.specs.declared.tree.Tree.{Tree}
+use Rattle.dart_sites.specs.Meaning.{Act, each, ◌▹◌, print_value}
+use Rattle.dart_sites.specs.Numbering.{text_of, body_from, IsProgramOf}
+use Rattle.dart_sites.specs.Running.{print_act}
+use Rattle.dart_sites.specs.Source.{value_of, is_call}
+use Rattle.dart_sites.specs.Entry.{statement}
+use Rattle.dart_sites.proofs.Resolving.{resolved}
+
+abbrev pub print_at : ℕ → PrintCall
+print_at j = record { class = record { 0 = 7 }; site = record { 0 = j } }
+
+pub each_same : (f : PrintCall → Act) (g : ℕ × PrintStmt → Act) (j : ℕ) (prints : List PrintStmt) →
+    ((k : ℕ) (s : PrintStmt) → slice_get prints k ≡ Some s → f (print_at (j + k)) ≡ g (j + k, s)) → each f (body_from j prints) ≡ each g (enumerate_from j prints)
+each_same f g j [] h = refl
+each_same f g j (p ∷ prints) h =
+    let first : f (print_at j) ≡ g (j, p) = subst (λ n. f (print_at n) ≡ g (n, p)) (add-zero j) (h zero p refl) in
+    let rest : each f (body_from (suc j) prints) ≡ each g (enumerate_from (j + 1) prints) =
+    each_same f g (suc j) prints (λ k s e. let further : j + suc k ≡ suc j + k = omega arith in subst (λ n. f (print_at n) ≡ g (n, s)) further (h (suc k) s e))
+    ∙ ap (λ n. each g (enumerate_from n prints)) (sym (add-one j)) in
+    ap (λ a. a ▹ each f (body_from (suc j) prints)) first ∙ ap (λ a. g (j, p) ▹ a) rest
+
+value_is : (o : Option ℕ) → is_some o ≡ true → o ≡ Some (unwrap_or o 0)
+value_is None e = absurd cc
+value_is (Some v) e = refl
+
+pub same_act : (source : List ℕ) (t : Tree) (p : Numbered) → IsProgramOf source t p →
+    ((k : ℕ) (s : PrintStmt) → slice_get t.prints k ≡ Some s → is_some (value_of source t.methods (text_of source s.method)) ≡ true) →
+    each (print_act p (resolve p) (length t.prints)) (body_from 0 t.prints) ≡ each (statement source t) (enumerate_from 0 t.prints)
+same_act source t p prog known =
+    each_same (print_act p (resolve p) (length t.prints)) (statement source t) 0 t.prints (λ k s e.
+    let zero_plus : 0 + k ≡ k = omega arith in
+    subst (λ n. print_act p (resolve p) (length t.prints) (print_at n) ≡ statement source t (n, s)) (sym zero_plus)
+    (ap (print_value k 7 (length t.prints) 3) (resolved source t p prog k s (unwrap_or (value_of source t.methods (text_of source s.method)) 0) e (value_is (value_of source t.methods (text_of source s.method)) (known k s e)))))
+
+both_true : (a b : Bool) → (a && b) ≡ true → (a ≡ true) × (b ≡ true)
+both_true true b e = (refl, e)
+both_true false b e = absurd cc
+
+-- what a test of all statements says of one
+pub call_at : (source : List ℕ) (t : Tree) (prints : List PrintStmt) → list_all (is_call source t) prints ≡ true → (k : ℕ) (s : PrintStmt) → slice_get prints k ≡ Some s →
+    is_some (value_of source t.methods (text_of source s.method)) ≡ true
+call_at source t [] all zero s e = absurd cc
+call_at source t [] all (suc k) s e = absurd cc
+call_at source t (p ∷ prints) all zero s e =
+    let is : p ≡ s = cc in
+    subst (λ (q : PrintStmt). is_some (value_of source t.methods (text_of source q.method)) ≡ true) is
+    (both_true (bytes_eq (text_of source p.class) (text_of source t.class)) (is_some (value_of source t.methods (text_of source p.method))) (both_true (is_call source t p) (list_all (is_call source t) prints) all).0).1
+call_at source t (p ∷ prints) all (suc k) s e = call_at source t prints (both_true (is_call source t p) (list_all (is_call source t) prints) all).1 k s e

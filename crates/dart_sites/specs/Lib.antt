@@ -1,0 +1,11 @@
+pub mod Words
+pub mod Outside
+pub mod Tokens
+pub mod Grammar
+pub mod Source
+pub mod Meaning
+pub mod Entry
+pub mod Numbering
+pub mod Running
+pub mod Report
+pub mod Top

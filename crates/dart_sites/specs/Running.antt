@@ -1,0 +1,38 @@
+-- What a piece of the walk did, told by the meaning of what it walked.
+use Rattle.std.specs.Prelude.{◌≡◌, ℕ, List, ◌++◌, [], replicate, Option, slice_get, None, Some}
+use Rattle.program.specs.declared.numbered.Numbered.{Numbered}
+use Rattle.program.specs.declared.numbered.Method.{Method}
+use Rattle.dart_sites.specs.declared.running.PrintCall.{PrintCall}
+use Rattle.program.specs.Numbered.{selector_of}
+use Rattle.program.specs.declared.numbered.Body.TheVariants as body
+use Rattle.program.specs.declared.numbered.Target.{Target}
+use Rattle.program.specs.declared.numbered.Target.TheVariants as target
+use Rattle.dart_sites.specs.declared.running.Ending.{Ending}
+use Rattle.dart_sites.specs.declared.running.Running.{Running}
+use Rattle.dart_sites.specs.Meaning.{Act, counted, print_value}
+
+-- the run went on by this act, and the cells with it
+pub record Did {C : Type 0} (After : C → List (ℕ × ℕ) → C → Type 0) (act : Act) (old new : Running) (before after : C) (ended : Option Ending) : Type 0 where
+  pub turns : new.turns ≡ (act old.turns).turns
+  pub lines : new.lines ≡ old.lines ++ (act old.turns).lines
+  pub calls : new.calls ≡ counted old.calls (act old.turns).asked
+  pub cells : After before (act old.turns).asked after
+  pub ending : ended ≡ (act old.turns).ending
+
+-- the number that a method answers
+abbrev pub number_of : Option Method → ℕ
+number_of None = 0
+number_of (Some m) = elim m.body [ body.Native n ↦ 0 | body.Number n ↦ n ]
+
+abbrev pub number_at : List Method → Target → ℕ
+number_at methods (target.Method m) = number_of (slice_get methods m.0)
+number_at methods (target.Nsm m) = 0
+
+-- `print(C().m())` in a numbered program, with these targets
+abbrev pub print_act : Numbered → (ℕ → ℕ → Target) → ℕ → PrintCall → Act
+print_act p answers print_site print =
+    print_value print.site.0 print.class.0 print_site 3 (number_at p.methods (answers print.class.0 (selector_of p.sites print.site.0)))
+
+-- a run before its first turn, with this many sites
+abbrev pub at_start : ℕ → ℕ → Running
+at_start turns sites = record { turns = turns; lines = []; calls = replicate sites 0 }

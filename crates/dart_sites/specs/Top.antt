@@ -1,0 +1,121 @@
+-- What each status of the program says.
+use Rattle.std.specs.Prelude.{◌≡◌, ℕ, ◌≤◌, ◌<◌, Bool, List, length, take, Option, MatchOption, IsSomeAnd, codes, Some, None}
+use Rattle.std.specs.Io.KnownBytes.{Appends, IsAtEnd}
+use Rattle.dart_sites.specs.declared.tree.Tree.{Tree}
+use Rattle.dart_sites.specs.Entry.{entry_meaning, is_done}
+use Rattle.dart_sites.specs.Report.{text_of_run}
+use Rattle.dart_sites.specs.Source.{IsSource}
+use Rattle.dart_sites.specs.Outside.{HasWritten}
+use Rattle.dart_sites.specs.Words.{Asks}
+use Rattle.dart_sites.specs.declared.words.Request.{Request}
+use Rattle.dart_sites.specs.declared.words.Request.TheVariants.{Run}
+use Rattle.dart_sites.specs.declared.telling.Outcome.{Outcome}
+use Rattle.dart_sites.specs.declared.telling.Outcome.TheVariants as outcome
+use Rattle.dart_sites.specs.declared.status.Status.{Status}
+use Rattle.dart_sites.specs.declared.status.Status.TheVariants as status
+
+-- ---- what a request says of the bytes that were read
+
+-- the bytes are no source
+abbrev pub NoSource : List ℕ → Type 0
+NoSource input = (t : Tree) → IsSource input t → ⊥
+
+-- the text of `run` of a source, and whether its entry was done
+pub record RunSays (turns : ℕ) (input text : List ℕ) (all_done : Bool) : Type 0 where
+  pub tree : Tree
+  pub source : IsSource input tree
+  pub text_is : text ≡ text_of_run input tree turns
+  pub done_is : all_done ≡ is_done (entry_meaning input tree turns).ending
+
+-- the text that a request defines for the bytes, and whether each of its entries was done
+abbrev pub Says : Request → List ℕ → List ℕ → Bool → Type 0
+Says (Run turns) input text all_done = RunSays turns input text all_done
+
+-- what came of the bytes
+abbrev pub OutcomeSays : Request → List ℕ → Outcome → Type 0
+OutcomeSays request input (outcome.Told told) = Says request input told.text.items told.all_done
+OutcomeSays request input outcome.NoSource = NoSource input
+OutcomeSays request input outcome.NoMemory = Unit {0}
+
+-- ---- what was written
+
+-- the words are a request, which says this text of the bytes, and the bytes were read to their end
+pub record Defines (words : List (List ℕ)) (input : List ℕ) (left : Option (List ℕ)) (text : List ℕ) (all_done : Bool) : Type 0 where
+  pub request : Request
+  pub asks : Asks words request
+  pub read : IsAtEnd left
+  pub says : Says request input text all_done
+
+-- the defined text was written whole; its entries were all done, or not
+pub record WholeWritten (words : List (List ℕ)) (input : List ℕ) (left held holds : Option (List ℕ)) (all_done : Bool) : Type 0 where
+  pub text : List ℕ
+  pub defined : Defines words input left text all_done
+  pub written : Appends held holds text
+
+-- a proper part of a text was written, from its front
+pub record CutShort (held holds : Option (List ℕ)) (text : List ℕ) : Type 0 where
+  pub count : ℕ
+  pub proper : count < length text
+  pub part : Appends held holds (take count text)
+
+-- a proper part of the defined text was written
+pub record PartWritten (words : List (List ℕ)) (input : List ℕ) (left held holds : Option (List ℕ)) : Type 0 where
+  pub text : List ℕ
+  pub all_done : Bool
+  pub defined : Defines words input left text all_done
+  pub written : CutShort held holds text
+
+-- ---- refusals
+
+-- the one line that a refusal writes
+abbrev pub line_of : Status → Option (List ℕ)
+line_of status.Done = None
+line_of status.EntryFault = None
+line_of status.BadWords = Some (codes "refused: words\n")
+line_of status.ReadFault = Some (codes "fault: read\n")
+line_of status.TooLarge = Some (codes "refused: more than 1048576 bytes\n")
+line_of status.SyntaxRefused = Some (codes "refused: source\n")
+line_of status.WriteFault = None
+line_of status.NoMemory = Some (codes "fault: memory\n")
+
+-- the line was written and nothing else, or a proper part of it, and then the faults of the sink rose
+abbrev pub LineWritten : Option (List ℕ) → Option (List ℕ) → ℕ → ℕ → List ℕ → Type 0
+LineWritten held holds before now line = (whole : Bool) × HasWritten held holds before now line whole
+
+abbrev pub RefusalWritten : Status → Option (List ℕ) → Option (List ℕ) → ℕ → ℕ → Type 0
+RefusalWritten answer held holds before now = MatchOption (line_of answer) (Unit {0}) (LineWritten held holds before now)
+
+-- ---- completeness
+
+-- the words are a request, and the source tells bytes that are accepted
+pub record IsAccepted (words : List (List ℕ)) (old : Option (List ℕ)) : Type 0 where
+  pub request : Request
+  pub asks : Asks words request
+  pub tree : Tree
+  pub source : IsSomeAnd old (λ input. IsSource input tree × length input ≤ 1048576)
+
+-- the answers to what is accepted, where no read and no write fails
+abbrev pub IsRunAnswer : Status → Type 0
+IsRunAnswer status.Done = Unit {0}
+IsRunAnswer status.EntryFault = Unit {0}
+IsRunAnswer status.NoMemory = Unit {0}
+IsRunAnswer _ = ⊥
+
+-- the answers of writing a text
+abbrev pub IsFinish : Status → Type 0
+IsFinish status.Done = Unit {0}
+IsFinish status.EntryFault = Unit {0}
+IsFinish status.WriteFault = Unit {0}
+IsFinish _ = ⊥
+
+-- ---- the exit codes
+
+abbrev pub code_of : Status → ℕ
+code_of status.Done = 0
+code_of status.EntryFault = 1
+code_of status.BadWords = 2
+code_of status.ReadFault = 3
+code_of status.TooLarge = 4
+code_of status.SyntaxRefused = 5
+code_of status.WriteFault = 8
+code_of status.NoMemory = 9

@@ -1,0 +1,48 @@
+-- What the words of the command line ask for: a request, or none.
+use Rattle.std.specs.Prelude.{◌≡◌, ℕ, ◌≤◌, List, [], ◌∷◌, Bool, true, false, map, codes, String, string_bytes, if◌then◌else◌, ◌==◌}
+use Rattle.std.specs.List.{list_all}
+use Rattle.std.specs.declared.alloc.Global.{Global}
+use Rattle.dart_sites.specs.declared.words.Request.{Request}
+use Rattle.dart_sites.specs.declared.words.Request.TheVariants.{Run}
+use Rattle.dart_sites.specs.Tokens.{is_digit_byte, digits_value}
+
+-- digits without a leading zero, or `0`
+abbrev pub is_plain : List ℕ → Bool
+is_plain [] = false
+is_plain (d ∷ []) = is_digit_byte d
+is_plain (d ∷ rest) = if d == 48 then false else list_all is_digit_byte (d ∷ rest)
+
+-- the text is the number in plain digits
+pub record IsNumber (text : List ℕ) (n : ℕ) : Type 0 where
+  pub plain : is_plain text ≡ true
+  pub value : digits_value text ≡ n
+
+-- the words
+abbrev pub texts : List (String Global) → List (List ℕ)
+texts words = map string_bytes words
+
+-- run TURNS 1 main
+pub record AsksRun (words : List (List ℕ)) (turns : ℕ) : Type 0 where
+  pub text : List ℕ
+  pub words_are : words ≡ codes "run" ∷ text ∷ codes "1" ∷ codes "main" ∷ []
+  pub number : IsNumber text turns
+  pub some : 1 ≤ turns
+  pub most : turns ≤ 1000000000
+
+-- the words ask for this request
+abbrev pub Asks : List (List ℕ) → Request → Type 0
+Asks words (Run turns) = AsksRun words turns
+
+-- the words ask for nothing
+abbrev pub NoRequest : List (List ℕ) → Type 0
+NoRequest words = (r : Request) → Asks words r → ⊥
+
+-- how many workers a request names
+abbrev pub workers : Request → ℕ
+workers (Run turns) = 1
+
+-- the words ask for a request with so many workers
+pub record AsksWorkers (words : List (List ℕ)) (count : ℕ) : Type 0 where
+  pub request : Request
+  pub asks : Asks words request
+  pub count_is : count ≡ workers request

@@ -1,0 +1,227 @@
+// The program over streams in memory: what no clause says, and that memory is enough.
+use crate::status::Status;
+use crate::top::dart_sites_main;
+use crate::words::workers_of;
+use ds_base::{MemorySink, MemorySource, OpenGate};
+use std::process::Abort;
+use std::test::Fail;
+use std::thread::Threads;
+
+const FIRST: &str = "class A { m() => 7; }\nmain() { print(A().m()); }\n";
+
+const FIRST_TEXT: &str =
+    "entry 0 main\n7\nend done\nsites 3\n0 m/0 2:20 calls 1 mono A -> A.m\n1 toString/0 print calls 1 mono int -> int.toString\n2 toString/0 list calls 0 unlinked\n";
+
+const TWO_TURNS_TEXT: &str =
+    "entry 0 main\nend out of turns\nsites 3\n0 m/0 2:20 calls 1 mono A -> A.m\n1 toString/0 print calls 0 unlinked\n2 toString/0 list calls 0 unlinked\n";
+
+fn words_of<R: AllocGlobal>(rt: &R, line: &str) -> Result<Vec<String>, Fail> {
+    let alloc = rt.alloc();
+    let mut words = Vec::new(alloc);
+    for word in line.split_whitespace() {
+        words.push(String::from_str(alloc, word)?)?;
+    }
+    Ok(words)
+}
+
+/// Runs the words over a source whose reads in `reads` fail and a sink whose writes in `writes` fail, and compares.
+fn expect<R: Threads + Sync + Abort + AllocGlobal>(
+    rt: &R,
+    line: &str,
+    text: &[u8],
+    reads: &[u64],
+    writes: &[u64],
+    status: Status,
+    held: &[u8],
+) -> Result<(), Fail> {
+    let alloc = rt.alloc();
+    let words = words_of(rt, line)?;
+    let mut source = MemorySource::build(text.to_vec(alloc)?, reads.to_vec(alloc)?, 65_536);
+    let mut sink = MemorySink::build(alloc, 1_048_576, writes.to_vec(alloc)?, 4)
+        .ok()
+        .ok_or("memory")?;
+    let answer = dart_sites_main(
+        rt,
+        alloc,
+        words.as_slice(),
+        &mut source,
+        &mut sink,
+        &OpenGate,
+    );
+    assert_eq!(rt; answer, status, "{line}");
+    assert_eq!(rt; sink.bytes(), held, "{line}");
+    if answer == Status::BadWords {
+        assert_eq!(rt; source.unread(), text, "{line}");
+    }
+    Ok(())
+}
+
+#[test]
+fn runs_the_first_program_and_tells_faults(rt: HostRuntime) -> Result<(), Fail> {
+    let first = FIRST.as_bytes();
+    let run = "run 100 1 main";
+    let text = FIRST_TEXT.as_bytes();
+    expect(&rt, run, first, &[], &[], Status::Done, text)?;
+    let two_turns = TWO_TURNS_TEXT.as_bytes();
+    expect(
+        &rt,
+        "run 2 1 main",
+        first,
+        &[],
+        &[],
+        Status::EntryFault,
+        two_turns,
+    )?;
+    expect(&rt, run, first, &[], &[1], Status::WriteFault, b"entr")?;
+    expect(
+        &rt,
+        run,
+        first,
+        &[0],
+        &[],
+        Status::ReadFault,
+        b"fault: read\n",
+    )?;
+    expect(&rt, run, first, &[0], &[0], Status::ReadFault, b"")
+}
+
+#[test]
+fn refuses_words_and_reads_nothing(rt: HostRuntime) -> Result<(), Fail> {
+    let first = FIRST.as_bytes();
+    for line in [
+        "",
+        "run",
+        "run 1 1",
+        "run 010 1 main",
+        "run 0 1 main",
+        "run 1000000001 1 main",
+        "run 18446744073709551616 1 main",
+        "run 1 17 main",
+        "run 1 1 main main",
+        "run 1 1 other",
+        "--help",
+    ] {
+        expect(
+            &rt,
+            line,
+            first,
+            &[],
+            &[],
+            Status::BadWords,
+            b"refused: words\n",
+        )?;
+        assert_eq!(&rt; workers_of(words_of(&rt, line)?.as_slice()), None);
+    }
+    let words = words_of(&rt, "run 1 1 main")?;
+    assert_eq!(&rt; workers_of(words.as_slice()), Some(1));
+    Ok(())
+}
+
+#[test]
+fn refuses_what_is_no_source(rt: HostRuntime) -> Result<(), Fail> {
+    for text in [
+        "",
+        "class A { m() => 7; } main() { print(B().m()); }",
+        "class A { m() => 7; } main() { print(A().n()); }",
+        "class A { m() => 7; m() => 8; } main() { print(A().m()); }",
+        "class A { A() => 7; } main() { print(A().A()); }",
+        "class while { m() => 7; } main() { print(while().m()); }",
+        "class A { length() => 7; } main() { print(A().length()); }",
+        "class A { m() => 9223372036854775808; } main() { print(A().m()); }",
+        "class A { m() => 7; } main() { print(A().m()); } ;",
+        "class A { m() => 7; }\tmain() { print(A().m()); }",
+        "classA { m() => 7; } main() { print(A().m()); }",
+    ] {
+        let line = "run 100 1 main";
+        let refused = b"refused: source\n";
+        expect(
+            &rt,
+            line,
+            text.as_bytes(),
+            &[],
+            &[],
+            Status::SyntaxRefused,
+            refused,
+        )?;
+    }
+    Ok(())
+}
+
+#[test]
+fn reads_up_to_the_limit(rt: HostRuntime) -> Result<(), Fail> {
+    let alloc = rt.alloc();
+    let spaces = vec![in alloc; b' '; 1_048_577]?;
+    let run = "run 100 1 main";
+    let too_large = b"refused: more than 1048576 bytes\n";
+    expect(
+        &rt,
+        run,
+        spaces.as_slice(),
+        &[],
+        &[],
+        Status::TooLarge,
+        too_large,
+    )?;
+    let spaces = vec![in alloc; b' '; 1_048_576]?;
+    let refused = b"refused: source\n";
+    expect(
+        &rt,
+        run,
+        spaces.as_slice(),
+        &[],
+        &[],
+        Status::SyntaxRefused,
+        refused,
+    )
+}
+
+/// A source with so many methods, each called once.
+fn many_methods<R: AllocGlobal>(rt: &R, count: u64) -> Result<String, Fail> {
+    let alloc = rt.alloc();
+    let mut text = String::from_str(alloc, "class A{")?;
+    for number in 0..count {
+        let method = format!(in alloc; "m{number}()=>{number};")?;
+        text.push_str(method.as_str())?;
+    }
+    text.push_str("}main(){")?;
+    for number in 0..count {
+        let print = format!(in alloc; "print(A().m{number}());")?;
+        text.push_str(print.as_str())?;
+    }
+    text.push_str("}")?;
+    Ok(text)
+}
+
+#[test]
+fn runs_a_thousand_methods(rt: HostRuntime) -> Result<(), Fail> {
+    let alloc = rt.alloc();
+    for (count, turns, status) in [
+        (1000, "run 2001 1 main", Status::Done),
+        (1000, "run 2000 1 main", Status::EntryFault),
+        (1001, "run 2001 1 main", Status::SyntaxRefused),
+    ] {
+        let text = many_methods(&rt, count)?;
+        let words = words_of(&rt, turns)?;
+        let bytes = text.as_bytes().to_vec(alloc)?;
+        let mut source = MemorySource::build(bytes, Vec::new(alloc), 65_536);
+        let mut sink = MemorySink::build(alloc, 1_048_576, Vec::new(alloc), 1_000)
+            .ok()
+            .ok_or("memory")?;
+        let answer = dart_sites_main(
+            &rt,
+            alloc,
+            words.as_slice(),
+            &mut source,
+            &mut sink,
+            &OpenGate,
+        );
+        assert_eq!(&rt; answer, status, "{count}");
+        if answer == Status::Done {
+            assert!(&rt;
+                sink.bytes()
+                    .ends_with(b"1001 toString/0 list calls 0 unlinked\n")
+            );
+        }
+    }
+    Ok(())
+}

@@ -1,0 +1,63 @@
+// What the words of the command line ask for.
+ghost use Rattle.std.specs.Prelude.{◌≡◌, ◌≢◌, ◌↔◌, ◌≤◌, ◌<◌, ◌-◌, ◌^◌, ℕ, MatchOption, IsSome, IfSome, map, string_bytes, true, false, not, nat_le, ◌&&◌};
+ghost use Rattle.dart_sites.specs.Words.{Asks, AsksWorkers, NoRequest, IsNumber, is_plain, texts};
+ghost use Rattle.dart_sites.specs.Tokens.{digits_value};
+ghost use Rattle.dart_sites.specs.declared.words.Request.{Request};
+
+use crate::lexing;
+
+/// What the words ask for.
+#[derive(Clone, Copy, Debug, PartialEq, Eq)]
+pub enum Request {
+    /// `run TURNS 1 main`: the entry `main`, with 1 to 1,000,000,000 turns.
+    Run { turns: u64 },
+}
+
+/// The number that a word writes in plain digits.
+fn number(text: &[u8]) -> Option<u64>
+    ensures { MatchOption result ((n : ℕ) → n < 2 ^ 64 - 1 → IsNumber text.now n → ⊥) (λ n. IsNumber text.now n) }
+{
+    if !is_plain(text) {
+        return None;
+    }
+    let value = lexing::digits_value(text);
+    if value < u64::MAX { Some(value) } else { None }
+}
+
+fn is_plain(text: &[u8]) -> bool
+    ensures { result ≡ is_plain text.now }
+{
+    match text {
+        [] => false,
+        [b'0'] => true,
+        [b'0', ..] => false,
+        _ => lexing::is_all_digits(text),
+    }
+}
+
+/// The request of the words.
+pub fn read_request(words: &[String]) -> Option<Request>
+    ensures { MatchOption result (NoRequest (texts words.now)) (λ r. Asks (texts words.now) r) }
+{
+    let [command, turns, workers, entry] = words else {
+        return None;
+    };
+    if command.as_str() != "run" || workers.as_str() != "1" || entry.as_str() != "main" {
+        return None;
+    }
+    let turns = number(turns.as_str().as_bytes())?;
+    if turns < 1 || turns > 1_000_000_000 {
+        return None;
+    }
+    Some(Request::Run { turns })
+}
+
+/// The number of workers that the words ask for; none exactly where they are no request.
+pub fn workers_of(words: &[String]) -> Option<u32>
+    ensures { MatchOption result (NoRequest (texts words.now)) (λ count. AsksWorkers (texts words.now) count) }
+{
+    match read_request(words) {
+        Some(Request::Run { .. }) => Some(1),
+        None => None,
+    }
+}

@@ -1,0 +1,2 @@
+class A { m() => 7; }
+main() { print(A().n()); }
