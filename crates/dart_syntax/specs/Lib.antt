@@ -1,1 +1,15 @@
 pub mod Words
+pub mod Bytes
+pub mod Comments
+pub mod Names
+pub mod Numbers
+pub mod Signs
+pub mod Strings
+pub mod Tokens
+pub mod Operators
+pub mod Syntax
+pub mod View
+pub mod Grammar
+pub mod Derivation
+pub mod Text
+pub mod ProperTokens

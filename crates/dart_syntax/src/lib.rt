@@ -1,6 +1,15 @@
-//! Tokens and trees of the language: types and tables, no logic.
+//! Tokens and trees of the language: types and tables.
 #![tactic(auto)]
 
+pub mod byte_kind;
+pub mod open;
+pub mod same;
+pub mod table;
 pub mod token;
+pub mod tree;
 
+pub use byte_kind::ByteKind;
+pub use open::Open;
+pub use table::{KEYWORDS, RESERVED, SIGNS};
 pub use token::{Identifier, Keyword, Sign, Span, Token, TokenKind, Units};
+pub use tree::{ClassDecl, Expr, Function, Member, Name, Param, Stmt, Top, Tree};

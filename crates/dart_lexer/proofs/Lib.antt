@@ -1,0 +1,13 @@
+pub mod Turns
+pub mod Facts
+pub mod Comments
+pub mod Digits
+pub mod Opens
+pub mod Escapes
+pub mod Strings
+pub mod Segments
+pub mod Signs
+pub mod Numbers
+pub mod Steps
+pub mod Cuts
+pub mod Causes

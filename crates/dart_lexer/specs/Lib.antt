@@ -1,0 +1,4 @@
+pub mod Input
+pub mod Signs
+pub mod FirstFault
+pub mod Model
