@@ -1,0 +1,10 @@
+pub mod Turns
+pub mod Steps
+pub mod View
+pub mod Facts
+pub mod Good
+pub mod Lists
+pub mod Many
+pub mod Terms
+pub mod Operators
+pub mod Expressions

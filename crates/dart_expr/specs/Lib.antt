@@ -1,0 +1,4 @@
+pub mod Input
+pub mod Firsts
+pub mod Model
+pub mod Nests

@@ -1,0 +1,4 @@
+pub mod Statements
+pub mod Nests
+pub mod Members
+pub mod Tops

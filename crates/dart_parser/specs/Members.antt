@@ -1,0 +1,230 @@
+-- Reading declarations: inner and whole read the statements and expressions of level 1.
+use Rattle.std.specs.Prelude.{◌≡◌, ℕ, ℤ, zero, suc, Bool, true, false, not, ◌||◌, ◌&&◌, if◌then◌else◌, List, [], ◌∷◌, ◌++◌, length, Option, Some, None, Ok, Err, codes}
+use Rattle.dart_syntax.specs.declared.token.Span.{Span}
+use Rattle.dart_syntax.specs.declared.token.TokenKind.{TokenKind}
+use Rattle.dart_syntax.specs.declared.token.TokenKind.TheVariants as tk
+use Rattle.dart_syntax.specs.declared.token.Sign.{Sign}
+use Rattle.dart_syntax.specs.declared.token.Sign.TheVariants as s
+use Rattle.dart_syntax.specs.declared.token.Keyword.{Keyword}
+use Rattle.dart_syntax.specs.declared.token.Keyword.TheVariants as k
+use Rattle.dart_syntax.specs.declared.tree.Name.{Name}
+use Rattle.dart_syntax.specs.declared.tree.Unary.TheVariants as u
+use Rattle.dart_syntax.specs.Syntax as tree
+use Rattle.dart_syntax.specs.Syntax.{Param, Exp, Sta, Exps, Stas, Body, Member, a_param}
+use Rattle.dart_syntax.specs.Words.{Tokens}
+use Rattle.dart_syntax.specs.Operators.{named}
+use Rattle.dart_expr.specs.Input.{kind, span, next, Parser, ◌>>=◌, ◌>>◌, ◌<$>◌, pure, refuse, here, take, sees, sees_keyword, eat, eat_keyword, expect, many_from}
+use Rattle.dart_expr.specs.Model.{name, args}
+use Rattle.dart_parser.specs.Statements.{item}
+use Rattle.dart_syntax.specs.declared.tree.Operator.{Operator}
+use Rattle.dart_syntax.specs.declared.tree.Operator.TheVariants as op
+use Rattle.dart_syntax.specs.Derivation.{same_text, operator_of, takes}
+
+abbrev pub minus_by : Span → Option TokenKind → Parser Exp
+minus_by a (Some (tk.Int n)) = (λ b. tree.unary u.Minus a (tree.int n b)) <$> take
+minus_by a (Some tk.MinInt) = (λ b. tree.unary u.Minus a (tree.min_int b)) <$> take
+minus_by a _ = refuse
+
+unfoldable pub minus : Parser Exp
+minus = do
+  a ← take
+  (λ ts. minus_by a (kind ts) ts)
+
+abbrev pub literal_by : Option TokenKind → Parser Exp
+literal_by (Some (tk.Keyword k.Null)) = tree.null <$> take
+literal_by (Some (tk.Keyword k.True)) = tree.bool true <$> take
+literal_by (Some (tk.Keyword k.False)) = tree.bool false <$> take
+literal_by (Some (tk.Int n)) = tree.int n <$> take
+literal_by (Some (tk.Str v)) = tree.str v <$> take
+literal_by (Some (tk.Sign s.Minus)) = minus
+literal_by _ = refuse
+
+unfoldable pub literal : Parser Exp
+literal = λ ts. literal_by (kind ts) ts
+
+-- behind the `=`
+unfoldable pub given : Parser Exp
+given = do
+  x ← literal
+  expect s.Semicolon
+  pure x
+
+unfoldable pub value : Parser (Option Exp)
+value = do
+  is_empty ← eat s.Semicolon
+  if is_empty then pure None else (expect s.Assign >> Some <$> given)
+
+unfoldable pub param_name : Bool → Bool → Parser Param
+param_name f g = a_param f g <$> name
+
+abbrev pub param_by : Bool → Option TokenKind → Parser Param
+param_by c (Some (tk.Keyword k.Var)) = take >> param_name false false
+param_by c (Some (tk.Keyword k.Dynamic)) = take >> param_name false false
+param_by c (Some (tk.Keyword k.Final)) = take >> param_name true false
+param_by true (Some (tk.Keyword k.This)) = take >> expect s.Dot >> param_name false true
+param_by c _ = param_name false false
+
+-- c says whether `this.x` may stand
+unfoldable pub param : Bool → Parser Param
+param c = λ ts. param_by c (kind ts) ts
+
+-- behind an item: a comma, or the closing sign, which stays
+unfoldable pub listed : {A : Type 0} → Sign → A → Parser (Option A)
+listed close x = λ ts. if sees s.Comma ts then Ok (Some x, next ts) else (if sees close ts then Ok (Some x, ts) else refuse ts)
+
+unfoldable pub param_item : Bool → Parser (Option Param)
+param_item c = λ ts. if sees s.ParenClose ts then Ok (None, ts) else (param c >>= listed s.ParenClose) ts
+
+unfoldable pub param_items : Bool → Parser (List Param)
+param_items c = λ ts. many_from (param_item c) (length ts) [] ts
+
+unfoldable pub params : Bool → Parser (List Param)
+params c = do
+  xs ← param_items c
+  expect s.ParenClose
+  pure xs
+
+-- ---- operators
+
+abbrev pub single : Option Operator → Parser (Operator × Span)
+single None = refuse
+single (Some o) = (λ a. (o, a)) <$> take
+
+unfoldable pub bracketed : Parser (Operator × Span)
+bracketed = do
+  a ← take
+  expect s.BracketClose
+  is_set ← eat s.Assign
+  if is_set then pure (op.Set, a) else (λ ts. if sees s.ParenOpen ts then Ok ((op.Get, a), ts) else refuse ts)
+
+abbrev pub operator_by : Option TokenKind → Parser (Operator × Span)
+operator_by (Some (tk.Sign s.BracketOpen)) = bracketed
+operator_by (Some (tk.Sign c)) = single (operator_of c)
+operator_by _ = refuse
+
+unfoldable pub operator : Parser (Operator × Span)
+operator = λ ts. operator_by (kind ts) ts
+
+module _ (inner : Parser Sta) (whole : Parser Exp) where
+  unfoldable pub statements : Parser (List Sta)
+  statements = λ ts. many_from (item (sees s.BraceClose) inner) (length ts) [] ts
+
+  -- the brace comes next
+  unfoldable pub block : Parser (List Sta)
+  block = do
+    expect s.BraceOpen
+    xs ← statements
+    expect s.BraceClose
+    pure xs
+
+  unfoldable pub body : Parser Body
+  body = do
+    is_arrow ← eat s.Arrow
+    if is_arrow then (do
+      x ← whole
+      expect s.Semicolon
+      pure (tree.arrow x)) else (λ xs. tree.code (tree.stas xs)) <$> block
+
+  unfoldable pub some_body : Parser (Option Body)
+  some_body = do
+    is_empty ← eat s.Semicolon
+    if is_empty then pure None else Some <$> body
+
+  unfoldable pub some_block : Parser (Option Stas)
+  some_block = do
+    is_empty ← eat s.Semicolon
+    if is_empty then pure None else (λ xs. Some (tree.stas xs)) <$> block
+
+  -- ---- members
+
+  unfoldable pub method : Name → Parser Member
+  method n = do
+    ps ← params false
+    tree.method n ps <$> some_body
+
+  -- what a constructor passes to its superclass
+  unfoldable pub passed : Parser (Option Exps)
+  passed = do
+    is_passed ← eat s.Colon
+    if is_passed then (do
+      is_super ← eat_keyword k.Super
+      if is_super then (do
+        expect s.ParenOpen
+        (λ xs. Some (tree.exps xs)) <$> args whole s.ParenClose) else refuse) else pure None
+
+  unfoldable pub constructor : Name → Parser Member
+  constructor n = do
+    ps ← params true
+    xs ← passed
+    tree.constructor n ps xs <$> some_block
+
+  unfoldable pub getter : Parser Member
+  getter = do
+    take
+    n ← name
+    tree.getter n <$> some_body
+
+  unfoldable pub setter : Parser Member
+  setter = do
+    take
+    n ← name
+    expect s.ParenOpen
+    p ← param false
+    expect s.ParenClose
+    tree.setter n p <$> some_body
+
+  -- an operator has so many parameters
+  unfoldable pub counted : Operator → List Param → Parser Bool
+  counted o ps = if takes o (length ps) then pure true else refuse
+
+  unfoldable pub operator_member : Parser Member
+  operator_member = do
+    take
+    o ← operator
+    expect s.ParenOpen
+    ps ← params false
+    counted o.0 ps
+    tree.operator o.0 o.1 ps <$> some_body
+
+  unfoldable pub field : Bool → Name → Parser Member
+  field f n = (λ v. tree.field (tree.a_local f n v)) <$> value
+
+  unfoldable pub function_member : List ℕ → Bool → Parser Member
+  function_member class typed = do
+    n ← name
+    expect s.ParenOpen
+    if not typed && same_text n.text class then constructor n else method n
+
+  abbrev pub plain_by : List ℕ → Bool → Option TokenKind → Parser Member
+  plain_by class typed (Some (tk.Keyword k.Get)) = getter
+  plain_by class typed (Some (tk.Keyword k.Set)) = setter
+  plain_by class typed (Some (tk.Keyword k.Operator)) = operator_member
+  plain_by class typed _ = function_member class typed
+
+  -- typed says whether a word stood before it
+  unfoldable pub plain : List ℕ → Bool → Parser Member
+  plain class typed = λ ts. plain_by class typed (kind ts) ts
+
+  -- behind `dynamic` and a name
+  unfoldable pub named_member : Name → Parser Member
+  named_member n = do
+    is_method ← eat s.ParenOpen
+    if is_method then method n else field false n
+
+  abbrev pub dynamic_by : List ℕ → Option TokenKind → Parser Member
+  dynamic_by class (Some (tk.Name n)) = name >>= named_member
+  dynamic_by class _ = plain class true
+
+  -- behind `dynamic`
+  unfoldable pub dynamic : List ℕ → Parser Member
+  dynamic class = λ ts. dynamic_by class (kind ts) ts
+
+  abbrev pub member_by : List ℕ → Option TokenKind → Parser Member
+  member_by class (Some (tk.Keyword k.Var)) = take >> name >>= field false
+  member_by class (Some (tk.Keyword k.Final)) = take >> name >>= field true
+  member_by class (Some (tk.Keyword k.Dynamic)) = take >> dynamic class
+  member_by class (Some (tk.Keyword k.Void)) = take >> plain class true
+  member_by class _ = plain class false
+
+  unfoldable pub member : List ℕ → Parser Member
+  member class = λ ts. member_by class (kind ts) ts
