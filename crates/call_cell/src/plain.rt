@@ -1,14 +1,14 @@
 // Cells of one thread: for each site the class of its first call.
 ghost use Rattle.std.specs.Prelude.{◌≡◌, ◌↔◌, ◌<◌, ◌≤◌, ◌++◌, [], ◌∷◌, ℕ, List, length, IfOk, option_map, replicate, None, Some};
-ghost use Rattle.program.specs.Numbered.{selector_of, IsConcrete};
-ghost use Rattle.program.specs.Lookup.{resolve};
+ghost use Rattle.first_program.specs.Numbered.{selector_of, IsConcrete};
+ghost use Rattle.first_program.specs.Lookup.{resolve};
 ghost use Rattle.call_cell.specs.Sites.{state_at, AfterCalls, transitions};
 ghost use Rattle.call_cell.specs.Laws.{after_calls_none, after_calls_both};
 
 use crate::{Cells, Dispatched, How};
 use ds_base::{NoMemory, Steps};
-use method_lookup::Linked;
-use program::{ClassId, SiteId};
+use first_lookup::Linked;
+use first_program::{ClassId, SiteId};
 use std::alloc::Global;
 use std::marker::Model;
 use std::sync::ledger::Ledger;
@@ -21,7 +21,7 @@ pub struct PlainCells {
 
 impl Model for PlainCells {
     ghost use Rattle.std.specs.Prelude.{List, Option};
-    ghost use Rattle.program.specs.declared.ids.ClassId.{ClassId};
+    ghost use Rattle.first_program.specs.declared.ids.ClassId.{ClassId};
 
     ghost Value = { List (Option ClassId) };
 

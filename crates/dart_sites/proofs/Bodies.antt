@@ -1,12 +1,12 @@
 -- One more statement of `main`.
 use Rattle.std.proofs.Common.{◌≡◌, ℕ, zero, suc, Some, slice_get, ◌≤◌, arith, ◌+◌, ◌<◌, List, [], ◌∷◌, length, drop, refl, ap, ◌∙◌, add-one, drop-cons, get_or}
-use Rattle.dart_sites.specs.declared.tree.PrintStmt.{PrintStmt}
+use Rattle.first_form.specs.declared.form.PrintStmt.{PrintStmt}
 use Rattle.dart_sites.specs.Numbering.{body_from, sites_from, classes, selectors}
-use Rattle.program.specs.Numbered.{ParentsAreBefore}
-use Rattle.program.specs.declared.numbered.Site.{Site}
+use Rattle.first_program.specs.Numbered.{ParentsAreBefore}
+use Rattle.first_program.specs.declared.numbered.Site.{Site}
 
 no_print : PrintStmt
-no_print = record { class = record { start = 0; end = 0 }; method = record { start = 0; end = 0 } }
+no_print = record { method = []; place = 0 }
 
 item : (prints : List PrintStmt) (j : ℕ) → j < length prints → drop j prints ≡ get_or prints j no_print ∷ drop (j + 1) prints
 item prints j h = rw (add-one, drop-cons prints j no_print) refl
@@ -37,6 +37,6 @@ selector_low j [] (suc (suc s)) site e = absurd cc
 selector_low j (p ∷ prints) zero site e = let is : site ≡ record { selector = record { 0 = j } } = cc in let same : site.selector.0 ≡ j = ap (λ (k : Site). k.selector.0) is in omega arith
 selector_low j (p ∷ prints) (suc s) site e = let low = selector_low (suc j) prints s site e in omega arith
 
-pub selector_count : (source : List ℕ) (prints : List PrintStmt) → length (selectors source prints) ≡ suc (length prints)
-selector_count source [] = refl
-selector_count source (p ∷ prints) = ap suc (selector_count source prints)
+pub selector_count : (prints : List PrintStmt) → length (selectors prints) ≡ suc (length prints)
+selector_count [] = refl
+selector_count (p ∷ prints) = ap suc (selector_count prints)

@@ -1,7 +1,7 @@
 -- A number that is too great stays at the greatest.
 use Rattle.std.proofs.Common.{◌≡◌, ℕ, ◌+◌, ◌*◌, ◌-◌, ◌^◌, ◌<◌, min, List, length, take, get_or, arith, sym, ◌∙◌, ap}
 use Rattle.std.proofs.lemmas.List.Sums.{fold_more}
-use Rattle.dart_sites.specs.Tokens.{digits_value}
+use Rattle.dart_sites.specs.Words.{digits_value}
 
 capped_digit : (n d top : ℕ) → min (min (min n top * 10) top + d) top ≡ min (10 * n + d) top
 capped_digit n d top = omega arith

@@ -3,15 +3,15 @@ use Rattle.std.proofs.Common.{◌≡◌, ℕ, zero, suc, ◌+◌, List, [], ◌�
 use Rattle.std.specs.Prelude.{slice_get, unwrap_or, length, is_some, ◌&&◌}
 use Rattle.std.specs.Str.{bytes_eq}
 use Rattle.std.specs.List.{enumerate_from, list_all}
-use Rattle.program.specs.declared.numbered.Numbered.{Numbered}
+use Rattle.first_program.specs.declared.numbered.Numbered.{Numbered}
 use Rattle.dart_sites.specs.declared.running.PrintCall.{PrintCall}
-use Rattle.program.specs.Lookup.{resolve}
-use Rattle.dart_sites.specs.declared.tree.PrintStmt.{PrintStmt}
-use Rattle.dart_sites.specs.declared.tree.Tree.{Tree}
+use Rattle.first_program.specs.Lookup.{resolve}
+use Rattle.first_form.specs.declared.form.PrintStmt.{PrintStmt}
+use Rattle.first_form.specs.declared.form.Form.{Form}
 use Rattle.dart_sites.specs.Meaning.{Act, each, ◌▹◌, print_value}
-use Rattle.dart_sites.specs.Numbering.{text_of, body_from, IsProgramOf}
+use Rattle.dart_sites.specs.Numbering.{body_from, IsProgramOf}
 use Rattle.dart_sites.specs.Running.{print_act}
-use Rattle.dart_sites.specs.Source.{value_of, is_call}
+use Rattle.first_form.specs.Names.{value_of, is_call}
 use Rattle.dart_sites.specs.Entry.{statement}
 use Rattle.dart_sites.proofs.Resolving.{resolved}
 
@@ -32,26 +32,25 @@ value_is : (o : Option ℕ) → is_some o ≡ true → o ≡ Some (unwrap_or o 0
 value_is None e = absurd cc
 value_is (Some v) e = refl
 
-pub same_act : (source : List ℕ) (t : Tree) (p : Numbered) → IsProgramOf source t p →
-    ((k : ℕ) (s : PrintStmt) → slice_get t.prints k ≡ Some s → is_some (value_of source t.methods (text_of source s.method)) ≡ true) →
-    each (print_act p (resolve p) (length t.prints)) (body_from 0 t.prints) ≡ each (statement source t) (enumerate_from 0 t.prints)
-same_act source t p prog known =
-    each_same (print_act p (resolve p) (length t.prints)) (statement source t) 0 t.prints (λ k s e.
+pub same_act : (t : Form) (p : Numbered) → IsProgramOf t p →
+    ((k : ℕ) (s : PrintStmt) → slice_get t.prints k ≡ Some s → is_some (value_of t.methods s.method) ≡ true) →
+    each (print_act p (resolve p) (length t.prints)) (body_from 0 t.prints) ≡ each (statement t) (enumerate_from 0 t.prints)
+same_act t p prog known =
+    each_same (print_act p (resolve p) (length t.prints)) (statement t) 0 t.prints (λ k s e.
     let zero_plus : 0 + k ≡ k = omega arith in
-    subst (λ n. print_act p (resolve p) (length t.prints) (print_at n) ≡ statement source t (n, s)) (sym zero_plus)
-    (ap (print_value k 7 (length t.prints) 3) (resolved source t p prog k s (unwrap_or (value_of source t.methods (text_of source s.method)) 0) e (value_is (value_of source t.methods (text_of source s.method)) (known k s e)))))
+    subst (λ n. print_act p (resolve p) (length t.prints) (print_at n) ≡ statement t (n, s)) (sym zero_plus)
+    (ap (print_value k 7 (length t.prints) 3) (resolved t p prog k s (unwrap_or (value_of t.methods s.method) 0) e (value_is (value_of t.methods s.method) (known k s e)))))
 
 both_true : (a b : Bool) → (a && b) ≡ true → (a ≡ true) × (b ≡ true)
 both_true true b e = (refl, e)
 both_true false b e = absurd cc
 
 -- what a test of all statements says of one
-pub call_at : (source : List ℕ) (t : Tree) (prints : List PrintStmt) → list_all (is_call source t) prints ≡ true → (k : ℕ) (s : PrintStmt) → slice_get prints k ≡ Some s →
-    is_some (value_of source t.methods (text_of source s.method)) ≡ true
-call_at source t [] all zero s e = absurd cc
-call_at source t [] all (suc k) s e = absurd cc
-call_at source t (p ∷ prints) all zero s e =
+pub call_at : (t : Form) (prints : List PrintStmt) → list_all (is_call t.methods) prints ≡ true → (k : ℕ) (s : PrintStmt) → slice_get prints k ≡ Some s →
+    is_some (value_of t.methods s.method) ≡ true
+call_at t [] all zero s e = absurd cc
+call_at t [] all (suc k) s e = absurd cc
+call_at t (p ∷ prints) all zero s e =
     let is : p ≡ s = cc in
-    subst (λ (q : PrintStmt). is_some (value_of source t.methods (text_of source q.method)) ≡ true) is
-    (both_true (bytes_eq (text_of source p.class) (text_of source t.class)) (is_some (value_of source t.methods (text_of source p.method))) (both_true (is_call source t p) (list_all (is_call source t) prints) all).0).1
-call_at source t (p ∷ prints) all (suc k) s e = call_at source t prints (both_true (is_call source t p) (list_all (is_call source t) prints) all).1 k s e
+    subst (λ (q : PrintStmt). is_some (value_of t.methods q.method) ≡ true) is (both_true (is_call t.methods p) (list_all (is_call t.methods) prints) all).0
+call_at t (p ∷ prints) all (suc k) s e = call_at t prints (both_true (is_call t.methods p) (list_all (is_call t.methods) prints) all).1 k s e

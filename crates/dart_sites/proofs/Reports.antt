@@ -7,10 +7,10 @@ use Rattle.std.proofs.lemmas.Bool.Decides.{nat_tests}
 use Rattle.std.proofs.lemmas.Grind.{common_steps}
 use Rattle.dart_sites.specs.declared.running.PrintCall.{PrintCall}
 use Rattle.call_cell.specs.Sites.{classes_at, state_at}
-use Rattle.dart_sites.specs.declared.tree.PrintStmt.{PrintStmt}
-use Rattle.dart_sites.specs.declared.tree.Tree.{Tree}
+use Rattle.first_form.specs.declared.form.PrintStmt.{PrintStmt}
+use Rattle.first_form.specs.declared.form.Form.{Form}
 use Rattle.dart_sites.specs.declared.report.SiteText.{SiteText}
-use Rattle.program.specs.declared.numbered.Class.{Class}
+use Rattle.first_program.specs.declared.numbered.Class.{Class}
 use Rattle.std.proofs.lemmas.List.{length-map}
 use Rattle.dart_sites.specs.Meaning.{counted}
 use Rattle.dart_sites.specs.Numbering.{body_from, sites_from}
@@ -75,5 +75,5 @@ pub site_lines_same : (all : List Class) (c0 c1 : ℕ → ℕ) (s0 s1 : ℕ → 
 site_lines_same all c0 c1 s0 s1 sites hc hs =
     ap (λ l. codes "sites " ++ decimal (length sites) ++ codes "\n" ++ l) (lines_same all c0 c1 s0 s1 0 sites (λ s h. hc s (omega arith)) hs)
 
-pub length-sites_of : (source : List ℕ) (t : Tree) → length (sites_of source t) ≡ length t.prints + 2
+pub length-sites_of : (source : List ℕ) (t : Form) → length (sites_of source t) ≡ length t.prints + 2
 length-sites_of source t = length-append (map (statement_site source) t.prints) prelude_sites ∙ ap (λ n. n + 2) (length-map t.prints (statement_site source))

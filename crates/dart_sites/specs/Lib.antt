@@ -1,7 +1,6 @@
 pub mod Words
 pub mod Outside
-pub mod Tokens
-pub mod Grammar
+pub mod Places
 pub mod Source
 pub mod Meaning
 pub mod Entry

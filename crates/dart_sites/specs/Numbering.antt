@@ -1,22 +1,16 @@
--- The numbered program of a tree.
+-- The numbered program of a program of the first form.
 use Rattle.std.specs.Prelude.{◌≡◌, ℕ, suc, List, [], ◌∷◌, ◌++◌, map, codes, Some, None, false}
-use Rattle.program.specs.declared.numbered.Class.{Class}
-use Rattle.program.specs.declared.numbered.Method.{Method}
-use Rattle.program.specs.declared.numbered.Selector.{Selector}
-use Rattle.program.specs.declared.numbered.Site.{Site}
+use Rattle.first_program.specs.declared.numbered.Class.{Class}
+use Rattle.first_program.specs.declared.numbered.Method.{Method}
+use Rattle.first_program.specs.declared.numbered.Selector.{Selector}
+use Rattle.first_program.specs.declared.numbered.Site.{Site}
 use Rattle.dart_sites.specs.declared.running.PrintCall.{PrintCall}
-use Rattle.program.specs.declared.numbered.Numbered.{Numbered}
-use Rattle.program.specs.declared.numbered.Body.TheVariants as body
-use Rattle.program.specs.declared.numbered.SelectorKind.TheVariants as kind
-use Rattle.dart_sites.specs.declared.tree.Name.{Name}
-use Rattle.dart_sites.specs.declared.tree.MethodDecl.{MethodDecl}
-use Rattle.dart_sites.specs.declared.tree.PrintStmt.{PrintStmt}
-use Rattle.dart_sites.specs.declared.tree.Tree.{Tree}
-use Rattle.dart_sites.specs.Tokens.{text_at}
-
--- the text of a name
-abbrev pub text_of : List ℕ → Name → List ℕ
-text_of source name = text_at source name.start name.end
+use Rattle.first_program.specs.declared.numbered.Numbered.{Numbered}
+use Rattle.first_program.specs.declared.numbered.Body.TheVariants as body
+use Rattle.first_program.specs.declared.numbered.SelectorKind.TheVariants as kind
+use Rattle.first_form.specs.declared.form.MethodDecl.{MethodDecl}
+use Rattle.first_form.specs.declared.form.PrintStmt.{PrintStmt}
+use Rattle.first_form.specs.declared.form.Form.{Form}
 
 abbrev pub child : List ℕ → Class
 child name = record { name = name; parent = Some (record { 0 = 0 }); is_abstract = false }
@@ -33,15 +27,15 @@ native owner name count id = record { owner = record { 0 = owner }; kind = kind.
 abbrev pub native_methods : List Method
 native_methods = native 0 (codes "==") 1 0 ∷ native 0 (codes "toString") 0 1 ∷ native 0 (codes "noSuchMethod") 1 2 ∷ native 3 (codes "toString") 0 3 ∷ []
 
-abbrev pub method_of : List ℕ → MethodDecl → Method
-method_of source m = record { owner = record { 0 = 7 }; kind = kind.Call; name = text_of source m.name; count = 0; body = body.Number m.value }
+abbrev pub method_of : MethodDecl → Method
+method_of m = record { owner = record { 0 = 7 }; kind = kind.Call; name = m.name; count = 0; body = body.Number m.value }
 
 abbrev pub call_selector : List ℕ → Selector
 call_selector name = record { kind = kind.Call; name = name; count = 0 }
 
 -- a selector and a site for each `print`, and then those of the prelude
-abbrev pub selectors : List ℕ → List PrintStmt → List Selector
-selectors source prints = map (λ (p : PrintStmt). call_selector (text_of source p.method)) prints ++ call_selector (codes "toString") ∷ []
+abbrev pub selectors : List PrintStmt → List Selector
+selectors prints = map (λ (p : PrintStmt). call_selector p.method) prints ++ call_selector (codes "toString") ∷ []
 
 abbrev pub sites_from : ℕ → List PrintStmt → List Site
 sites_from j [] = record { selector = record { 0 = j } } ∷ record { selector = record { 0 = j } } ∷ []
@@ -51,9 +45,9 @@ abbrev pub body_from : ℕ → List PrintStmt → List PrintCall
 body_from j [] = []
 body_from j (p ∷ prints) = record { class = record { 0 = 7 }; site = record { 0 = j } } ∷ body_from (suc j) prints
 
--- the numbered program of a tree: its class has the id 7, behind Object and the built-in classes
-pub record IsProgramOf (source : List ℕ) (t : Tree) (p : Numbered) : Type 0 where
-  pub classes_are : p.classes ≡ classes (text_of source t.class)
-  pub methods_are : p.methods ≡ native_methods ++ map (method_of source) t.methods
-  pub selectors_are : p.selectors ≡ selectors source t.prints
-  pub sites_are : p.sites ≡ sites_from 0 t.prints
+-- the numbered program: its class has the id 7, behind Object and the built-in classes
+pub record IsProgramOf (f : Form) (p : Numbered) : Type 0 where
+  pub classes_are : p.classes ≡ classes f.class
+  pub methods_are : p.methods ≡ native_methods ++ map method_of f.methods
+  pub selectors_are : p.selectors ≡ selectors f.prints
+  pub sites_are : p.sites ≡ sites_from 0 f.prints

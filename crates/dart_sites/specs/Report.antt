@@ -3,24 +3,15 @@ use Rattle.std.specs.Prelude.{ℕ, ◌+◌, List, [], ◌∷◌, ◌++◌, lengt
 use Rattle.std.specs.List.{flat_map, enumerate_from}
 use Rattle.std.specs.Fmt.{decimal}
 use Rattle.call_cell.specs.Sites.{after_call, classes_at}
-use Rattle.program.specs.declared.numbered.Class.{Class}
+use Rattle.first_program.specs.declared.numbered.Class.{Class}
 use Rattle.dart_sites.specs.declared.report.SiteText.{SiteText}
-use Rattle.dart_sites.specs.declared.tree.PrintStmt.{PrintStmt}
-use Rattle.dart_sites.specs.declared.tree.Tree.{Tree}
+use Rattle.first_form.specs.declared.form.PrintStmt.{PrintStmt}
+use Rattle.first_form.specs.declared.form.Form.{Form}
 use Rattle.dart_sites.specs.declared.running.Ending.{Ending}
 use Rattle.dart_sites.specs.declared.running.Ending.TheVariants.{Done, OutOfTurns}
-use Rattle.dart_sites.specs.Numbering.{text_of, classes}
+use Rattle.dart_sites.specs.Places.{line_at, column_at, place_text}
+use Rattle.dart_sites.specs.Numbering.{classes}
 use Rattle.dart_sites.specs.Entry.{EntryMeaning, entry_meaning}
-
--- ---- places
-
--- 1 and the line feeds before a place
-abbrev pub line_at : List ℕ → ℕ → ℕ
-line_at source place = 1 + count_by (λ b. b == 10) (take place source)
-
--- 1 and the bytes since the last line feed before a place
-abbrev pub column_at : List ℕ → ℕ → ℕ
-column_at source place = 1 + length (take_while (λ b. not (b == 10)) (reverse (take place source)))
 
 -- ---- entries
 
@@ -77,13 +68,13 @@ abbrev pub run_text : List Class → List SiteText → List (List ℕ × EntryMe
 run_text all sites entries =
     flat_map entry_text (enumerate_from 0 entries) ++ site_lines all (calls_at (all_asked entries)) (alone (all_asked entries)) sites
 
--- ---- a source
+-- ---- a program of the first form
 
 -- the site of a statement stands at the name of its method
 abbrev pub statement_site : List ℕ → PrintStmt → SiteText
 statement_site source p = record {
-  member = text_of source p.method;
-  place = decimal (line_at source p.method.start) ++ codes ":" ++ decimal (column_at source p.method.start);
+  member = p.method;
+  place = place_text source p.place;
 }
 
 -- the two sites of the prelude, which come last
@@ -91,13 +82,13 @@ abbrev pub prelude_sites : List SiteText
 prelude_sites = record { member = codes "toString"; place = codes "print" } ∷ record { member = codes "toString"; place = codes "list" } ∷ []
 
 -- the sites of a source, by the place of the name: the statements stand in the order of their names
-abbrev pub sites_of : List ℕ → Tree → List SiteText
-sites_of source t = map (statement_site source) t.prints ++ prelude_sites
+abbrev pub sites_of : List ℕ → Form → List SiteText
+sites_of source f = map (statement_site source) f.prints ++ prelude_sites
 
 -- the entry `main` with its name
-abbrev pub main_entry : List ℕ → Tree → ℕ → List ℕ × EntryMeaning
-main_entry source t turns = (codes "main", entry_meaning source t turns)
+abbrev pub main_entry : Form → ℕ → List ℕ × EntryMeaning
+main_entry f turns = (codes "main", entry_meaning f turns)
 
--- the text of `run` of a source with one entry `main`
-abbrev pub text_of_run : List ℕ → Tree → ℕ → List ℕ
-text_of_run source t turns = run_text (classes (text_of source t.class)) (sites_of source t) (main_entry source t turns ∷ [])
+-- the text of `run` of a source that is this program, with one entry `main`
+abbrev pub text_of_run : List ℕ → Form → ℕ → List ℕ
+text_of_run source f turns = run_text (classes f.class) (sites_of source f) (main_entry f turns ∷ [])

@@ -1,12 +1,12 @@
 -- What a piece of the walk did, told by the meaning of what it walked.
 use Rattle.std.specs.Prelude.{◌≡◌, ℕ, List, ◌++◌, [], replicate, Option, slice_get, None, Some}
-use Rattle.program.specs.declared.numbered.Numbered.{Numbered}
-use Rattle.program.specs.declared.numbered.Method.{Method}
+use Rattle.first_program.specs.declared.numbered.Numbered.{Numbered}
+use Rattle.first_program.specs.declared.numbered.Method.{Method}
 use Rattle.dart_sites.specs.declared.running.PrintCall.{PrintCall}
-use Rattle.program.specs.Numbered.{selector_of}
-use Rattle.program.specs.declared.numbered.Body.TheVariants as body
-use Rattle.program.specs.declared.numbered.Target.{Target}
-use Rattle.program.specs.declared.numbered.Target.TheVariants as target
+use Rattle.first_program.specs.Numbered.{selector_of}
+use Rattle.first_program.specs.declared.numbered.Body.TheVariants as body
+use Rattle.first_program.specs.declared.numbered.Target.{Target}
+use Rattle.first_program.specs.declared.numbered.Target.TheVariants as target
 use Rattle.dart_sites.specs.declared.running.Ending.{Ending}
 use Rattle.dart_sites.specs.declared.running.Running.{Running}
 use Rattle.dart_sites.specs.Meaning.{Act, counted, print_value}

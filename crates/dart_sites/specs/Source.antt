@@ -1,80 +1,78 @@
--- Which bytes are a source, and the tree that they have.
-use Rattle.std.specs.Prelude.{◌≡◌, ℕ, List, [], ◌∷◌, Bool, true, false, ◌&&◌, ◌||◌, not, codes, length, nat_le, Option, Some, None, is_some, if◌then◌else◌}
-use Rattle.std.specs.List.{list_all, list_any}
-use Rattle.std.specs.Str.{bytes_eq}
-use Rattle.dart_sites.specs.declared.tree.MethodDecl.{MethodDecl}
-use Rattle.dart_sites.specs.declared.tree.PrintStmt.{PrintStmt}
-use Rattle.dart_sites.specs.declared.tree.Tree.{Tree}
-use Rattle.dart_sites.specs.Tokens.{tokens}
-use Rattle.dart_sites.specs.Grammar.{tree_tokens}
-use Rattle.dart_sites.specs.Numbering.{text_of}
+-- Which bytes are a source, and with which line others are refused.
+use Rattle.std.specs.Prelude.{◌≡◌, ℕ, Bool, true, false, List, ◌++◌, codes, Option, Some, None}
+use Rattle.dart_syntax.specs.declared.token.Token.{Token}
+use Rattle.dart_syntax.specs.Tokens.{TokenList}
+use Rattle.dart_syntax.specs.Syntax.{Tree}
+use Rattle.dart_syntax.specs.Derivation.{Derives}
+use Rattle.dart_lexer.specs.declared.error.LexError.{LexError}
+use Rattle.dart_lexer.specs.declared.error.LexError.TheVariants as error
+use Rattle.dart_lexer.specs.FirstFault.{Refused}
+use Rattle.dart_sites.specs.declared.source.Refusal.{Refusal}
+use Rattle.dart_sites.specs.declared.source.RefusalKind.{RefusalKind}
+use Rattle.dart_sites.specs.declared.source.RefusalKind.TheVariants as kind
+use Rattle.dart_sites.specs.declared.source.Read.{Read}
+use Rattle.dart_sites.specs.declared.source.Read.TheVariants as read
+use Rattle.dart_syntax.specs.View.{unit}
+use Rattle.dart_sites.specs.Places.{place_text}
 
--- the words that no class and no method of a source is named
-abbrev pub keywords : List (List ℕ)
-keywords =
-    codes "abstract" ∷ codes "break" ∷ codes "class" ∷ codes "continue" ∷ codes "do" ∷ codes "dynamic" ∷ codes "else" ∷ codes "extends" ∷ codes "false"
-    ∷ codes "final" ∷ codes "for" ∷ codes "get" ∷ codes "if" ∷ codes "implements" ∷ codes "is" ∷ codes "null" ∷ codes "operator" ∷ codes "return" ∷ codes "set"
-    ∷ codes "super" ∷ codes "this" ∷ codes "throw" ∷ codes "true" ∷ codes "var" ∷ codes "void" ∷ codes "while" ∷ []
+-- the bytes have a token list, and that list has this tree
+pub record IsSource (input : List ℕ) (t : Tree) : Type 0 where
+  pub list : List Token
+  pub tokens : TokenList input list
+  pub derives : Derives list t
 
-abbrev pub reserved_words : List (List ℕ)
-reserved_words =
-    codes "assert" ∷ codes "case" ∷ codes "catch" ∷ codes "const" ∷ codes "default" ∷ codes "enum" ∷ codes "finally" ∷ codes "in" ∷ codes "new" ∷ codes "rethrow"
-    ∷ codes "switch" ∷ codes "try" ∷ codes "with" ∷ []
+-- the bytes have no token list, or that list has no tree
+abbrev pub NoTree : List ℕ → Type 0
+NoTree input = (t : Tree) → IsSource input t → ⊥
 
-abbrev pub built_in_classes : List (List ℕ)
-built_in_classes = codes "Object" ∷ codes "Null" ∷ codes "bool" ∷ codes "int" ∷ codes "String" ∷ codes "List" ∷ codes "Invocation" ∷ []
+-- ---- refusals
 
-abbrev pub built_in_members : List (List ℕ)
-built_in_members =
-    codes "toString" ∷ codes "noSuchMethod" ∷ codes "isEven" ∷ codes "isOdd" ∷ codes "length" ∷ codes "isEmpty" ∷ codes "codeUnitAt" ∷ codes "substring" ∷ codes "add"
-    ∷ codes "removeLast" ∷ codes "memberName" ∷ codes "positionalArguments" ∷ codes "isMethod" ∷ codes "isGetter" ∷ codes "isSetter" ∷ []
+abbrev pub kind_name : RefusalKind → List ℕ
+kind_name kind.NotUtf8 = codes "NotUtf8"
+kind_name kind.BadChar = codes "BadChar"
+kind_name kind.UnclosedString = codes "UnclosedString"
+kind_name kind.UnclosedComment = codes "UnclosedComment"
+kind_name kind.WideInteger = codes "WideInteger"
+kind_name kind.ReservedWord = codes "ReservedWord"
+kind_name kind.Syntax = codes "Syntax"
+kind_name kind.TooDeep = codes "TooDeep"
 
--- the entry point, and the function that each statement calls
-abbrev pub functions : List (List ℕ)
-functions = codes "print" ∷ codes "main" ∷ []
+abbrev pub refused_at : RefusalKind → ℕ → Option Refusal
+refused_at k at = Some (record { kind = k; at = at })
 
-unfoldable pub is_one_of : List (List ℕ) → List ℕ → Bool
-is_one_of words name = list_any (λ w. bytes_eq name w) words
+-- the refusal of a text that has no token list
+abbrev pub refusal_of : LexError → Option Refusal
+refusal_of error.NoMemory = None
+refusal_of (error.NotUtf8 at) = refused_at kind.NotUtf8 at
+refusal_of (error.BadChar at) = refused_at kind.BadChar at
+refusal_of (error.UnclosedString at) = refused_at kind.UnclosedString at
+refusal_of (error.UnclosedComment at) = refused_at kind.UnclosedComment at
+refusal_of (error.WideInteger at) = refused_at kind.WideInteger at
+refusal_of (error.ReservedWord at) = refused_at kind.ReservedWord at
 
-abbrev pub is_built_in : List ℕ → Bool
-is_built_in name = is_one_of built_in_classes name || (is_one_of built_in_members name || is_one_of functions name)
+-- the kinds of refusal of a token list that has no tree
+abbrev pub is_of_grammar : RefusalKind → Bool
+is_of_grammar kind.Syntax = true
+is_of_grammar kind.TooDeep = true
+is_of_grammar _ = false
 
--- a keyword, a reserved word, a built-in class or member, `print` or `main`
-unfoldable pub is_taken : List ℕ → Bool
-is_taken name = is_one_of keywords name || (is_one_of reserved_words name || is_built_in name)
+-- Why bytes are no source. Which token of a list is at fault is not said here.
+pub data IsRefused (input : List ℕ) (r : Refusal) : Type 0 where
+  no_list : {e : LexError} → Refused input e → refusal_of e ≡ Some r → IsRefused input r
+  no_tree : {list : List Token} → TokenList input list → ((t : Tree) → Derives list t → ⊥) → is_of_grammar r.kind ≡ true → IsRefused input r
 
--- the method of this name answers this
-abbrev pub value_of : List ℕ → List MethodDecl → List ℕ → Option ℕ
-value_of source [] name = None
-value_of source (m ∷ methods) name = if bytes_eq (text_of source m.name) name then Some m.value else value_of source methods name
+-- refused: KIND at LINE:COL
+abbrev pub refusal_line : List ℕ → Refusal → List ℕ
+refusal_line input r = codes "refused: " ++ kind_name r.kind ++ codes " at " ++ place_text input r.at ++ codes "\n"
 
--- the name of a method may be its name: it is not taken, and not that of the class
-abbrev pub is_free : List ℕ → List ℕ → MethodDecl → Bool
-is_free source class m = not (is_taken (text_of source m.name)) && not (bytes_eq (text_of source m.name) class)
+-- ---- what reading the bytes says
 
--- a statement makes the class, and calls one of its methods
-abbrev pub is_call : List ℕ → Tree → PrintStmt → Bool
-is_call source t p = bytes_eq (text_of source p.class) (text_of source t.class) && is_some (value_of source t.methods (text_of source p.method))
+-- the bytes have this tree and no other
+pub record IsTreeOf (input : List ℕ) (t : Tree) : Type 0 where
+  pub source : IsSource input t
+  pub only : (u : Tree) → IsSource input u → t ≡ u
 
--- no two methods have one name
-abbrev pub are_distinct : List ℕ → List MethodDecl → Bool
-are_distinct source [] = true
-are_distinct source (m ∷ methods) = not (is_some (value_of source methods (text_of source m.name))) && are_distinct source methods
-
--- the names of the tree are such as the language allows
-pub record IsNamed (source : List ℕ) (t : Tree) : Type 0 where
-  pub class : is_taken (text_of source t.class) ≡ false
-  pub methods : list_all (is_free source (text_of source t.class)) t.methods ≡ true
-  pub distinct : are_distinct source t.methods ≡ true
-  pub calls : list_all (is_call source t) t.prints ≡ true
-  pub few_methods : nat_le (length t.methods) 1000 ≡ true
-  pub few_prints : nat_le (length t.prints) 1000 ≡ true
-
--- the bytes are a source, and this is its tree
-pub record IsSource (source : List ℕ) (t : Tree) : Type 0 where
-  pub tokens_are : tokens source ≡ tree_tokens t
-  pub named : IsNamed source t
-
--- bytes are a source in at most one way
-abbrev pub HasOneTree : Type 0
-HasOneTree = (source : List ℕ) (t u : Tree) → IsSource source t → IsSource source u → t ≡ u
+abbrev pub ReadSays : List ℕ → Read → Type 0
+ReadSays input (read.Tree t) = IsTreeOf input (unit t)
+ReadSays input (read.Refused r) = NoTree input × IsRefused input r
+ReadSays input read.NoMemory = Unit {0}

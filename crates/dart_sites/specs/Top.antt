@@ -1,10 +1,13 @@
 -- What each status of the program says.
 use Rattle.std.specs.Prelude.{◌≡◌, ℕ, ◌≤◌, ◌<◌, Bool, List, length, take, Option, MatchOption, IsSomeAnd, codes, Some, None}
 use Rattle.std.specs.Io.KnownBytes.{Appends, IsAtEnd}
-use Rattle.dart_sites.specs.declared.tree.Tree.{Tree}
+use Rattle.dart_syntax.specs.Syntax.{Tree}
+use Rattle.first_form.specs.declared.form.Form.{Form}
+use Rattle.first_form.specs.Form.{form_of}
 use Rattle.dart_sites.specs.Entry.{entry_meaning, is_done}
 use Rattle.dart_sites.specs.Report.{text_of_run}
-use Rattle.dart_sites.specs.Source.{IsSource}
+use Rattle.dart_sites.specs.declared.source.Refusal.{Refusal}
+use Rattle.dart_sites.specs.Source.{IsSource, IsTreeOf, NoTree, IsRefused, refusal_line}
 use Rattle.dart_sites.specs.Outside.{HasWritten}
 use Rattle.dart_sites.specs.Words.{Asks}
 use Rattle.dart_sites.specs.declared.words.Request.{Request}
@@ -16,25 +19,37 @@ use Rattle.dart_sites.specs.declared.status.Status.TheVariants as status
 
 -- ---- what a request says of the bytes that were read
 
--- the bytes are no source
-abbrev pub NoSource : List ℕ → Type 0
-NoSource input = (t : Tree) → IsSource input t → ⊥
-
--- the text of `run` of a source, and whether its entry was done
+-- the text of `run` of a source that is a program of the first form, and whether its entry was done
 pub record RunSays (turns : ℕ) (input text : List ℕ) (all_done : Bool) : Type 0 where
   pub tree : Tree
   pub source : IsSource input tree
-  pub text_is : text ≡ text_of_run input tree turns
-  pub done_is : all_done ≡ is_done (entry_meaning input tree turns).ending
+  pub form : Form
+  pub form_is : form_of tree ≡ Some form
+  pub text_is : text ≡ text_of_run input form turns
+  pub done_is : all_done ≡ is_done (entry_meaning form turns).ending
 
 -- the text that a request defines for the bytes, and whether each of its entries was done
 abbrev pub Says : Request → List ℕ → List ℕ → Bool → Type 0
 Says (Run turns) input text all_done = RunSays turns input text all_done
 
+-- the bytes are no source, and this line says why
+pub record NoSource (input line : List ℕ) : Type 0 where
+  pub no_tree : NoTree input
+  pub why : Refusal
+  pub refused : IsRefused input why
+  pub line_is : line ≡ refusal_line input why
+
+-- the bytes are a source, but no program of the first form
+pub record IsUnbuilt (input : List ℕ) : Type 0 where
+  pub tree : Tree
+  pub tree_of : IsTreeOf input tree
+  pub no_form : form_of tree ≡ None
+
 -- what came of the bytes
 abbrev pub OutcomeSays : Request → List ℕ → Outcome → Type 0
 OutcomeSays request input (outcome.Told told) = Says request input told.text.items told.all_done
-OutcomeSays request input outcome.NoSource = NoSource input
+OutcomeSays request input (outcome.Refused line) = NoSource input line.items
+OutcomeSays request input outcome.Unbuilt = IsUnbuilt input
 OutcomeSays request input outcome.NoMemory = Unit {0}
 
 -- ---- what was written
@@ -67,14 +82,15 @@ pub record PartWritten (words : List (List ℕ)) (input : List ℕ) (left held h
 
 -- ---- refusals
 
--- the one line that a refusal writes
+-- the one line of a refusal, but for the syntax
 abbrev pub line_of : Status → Option (List ℕ)
 line_of status.Done = None
 line_of status.EntryFault = None
 line_of status.BadWords = Some (codes "refused: words\n")
 line_of status.ReadFault = Some (codes "fault: read\n")
 line_of status.TooLarge = Some (codes "refused: more than 1048576 bytes\n")
-line_of status.SyntaxRefused = Some (codes "refused: source\n")
+line_of status.SyntaxRefused = None
+line_of status.NameRefused = Some (codes "refused: unbuilt\n")
 line_of status.WriteFault = None
 line_of status.NoMemory = Some (codes "fault: memory\n")
 
@@ -85,6 +101,13 @@ LineWritten held holds before now line = (whole : Bool) × HasWritten held holds
 abbrev pub RefusalWritten : Status → Option (List ℕ) → Option (List ℕ) → ℕ → ℕ → Type 0
 RefusalWritten answer held holds before now = MatchOption (line_of answer) (Unit {0}) (LineWritten held holds before now)
 
+-- the bytes are no source, they were read to their end, and the line that says why was written
+pub record SyntaxRefusal (input : List ℕ) (left held holds : Option (List ℕ)) (before now : ℕ) : Type 0 where
+  pub line : List ℕ
+  pub no_source : NoSource input line
+  pub read : IsAtEnd left
+  pub written : LineWritten held holds before now line
+
 -- ---- completeness
 
 -- the words are a request, and the source tells bytes that are accepted
@@ -92,6 +115,8 @@ pub record IsAccepted (words : List (List ℕ)) (old : Option (List ℕ)) : Type
   pub request : Request
   pub asks : Asks words request
   pub tree : Tree
+  pub form : Form
+  pub form_is : form_of tree ≡ Some form
   pub source : IsSomeAnd old (λ input. IsSource input tree × length input ≤ 1048576)
 
 -- the answers to what is accepted, where no read and no write fails
@@ -117,5 +142,6 @@ code_of status.BadWords = 2
 code_of status.ReadFault = 3
 code_of status.TooLarge = 4
 code_of status.SyntaxRefused = 5
+code_of status.NameRefused = 6
 code_of status.WriteFault = 8
 code_of status.NoMemory = 9

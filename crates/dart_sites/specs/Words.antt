@@ -1,10 +1,16 @@
 -- What the words of the command line ask for: a request, or none.
-use Rattle.std.specs.Prelude.{◌≡◌, ℕ, ◌≤◌, List, [], ◌∷◌, Bool, true, false, map, codes, String, string_bytes, if◌then◌else◌, ◌==◌}
+use Rattle.std.specs.Prelude.{◌≡◌, ℕ, ◌≤◌, List, [], ◌∷◌, Bool, true, false, map, codes, String, string_bytes, if◌then◌else◌, ◌==◌, ◌+◌, ◌*◌, ◌-◌, ◌&&◌, fold, nat_le}
 use Rattle.std.specs.List.{list_all}
 use Rattle.std.specs.declared.alloc.Global.{Global}
 use Rattle.dart_sites.specs.declared.words.Request.{Request}
 use Rattle.dart_sites.specs.declared.words.Request.TheVariants.{Run}
-use Rattle.dart_sites.specs.Tokens.{is_digit_byte, digits_value}
+
+abbrev pub is_digit_byte : ℕ → Bool
+is_digit_byte b = nat_le 48 b && nat_le b 57
+
+-- the number that decimal digits write
+abbrev pub digits_value : List ℕ → ℕ
+digits_value text = fold (λ n b. 10 * n + (b - 48)) 0 text
 
 -- digits without a leading zero, or `0`
 abbrev pub is_plain : List ℕ → Bool

@@ -1,20 +1,18 @@
 //! `dart_sites`: runs programs in a profile of Dart, and reports the call sites of each run.
 #![tactic(auto)]
 
-mod checking;
-mod grammar;
-mod laws;
-mod lexing;
 mod numbering;
+mod places;
 mod reading;
 mod report;
 mod running;
+mod source;
 mod status;
 mod telling;
 #[cfg(test)]
 mod tests;
+mod text;
 mod top;
-mod tree;
 mod words;
 mod writing;
 

@@ -1,30 +1,18 @@
-// From the tree to the numbered program.
+// From a program of the first form to its numbered program.
 ghost use Rattle.std.specs.Prelude.{◌≡◌, ◌≤◌, ◌++◌, [], ◌∷◌, map, length, IfOk, OnOk, Some};
-ghost use Rattle.dart_sites.specs.Numbering.{text_of, classes, child, native, native_methods, method_of, call_selector, selectors, sites_from, body_from, IsProgramOf};
-ghost use Rattle.program.specs.declared.numbered.Class.{Class};
-ghost use Rattle.program.specs.declared.numbered.Method.{Method};
+ghost use Rattle.dart_sites.specs.Numbering.{classes, child, native, native_methods, method_of, call_selector, selectors, sites_from, body_from, IsProgramOf};
+ghost use Rattle.first_program.specs.declared.numbered.Class.{Class};
+ghost use Rattle.first_program.specs.declared.numbered.Method.{Method};
 
 use crate::running::PrintCall;
-use crate::tree::{MethodDecl, Name, PrintStmt, Tree};
 use ds_base::NoMemory;
-use program::{
+use first_form::{Form, MethodDecl, PrintStmt};
+use first_program::{
     Body, Class, ClassId, Method, NativeId, Numbered, Selector, SelectorId, SelectorKind, Site,
     SiteId,
 };
 use sqlite_items::Items;
 use std::alloc::Global;
-
-/// The text of a name in the source.
-pub fn text_of(source: &[u8], name: Name) -> &[u8]
-    ensures { result.now ≡ text_of source.now name }
-{
-    let end = name.end.min(source.len());
-    if name.start <= end {
-        &source[name.start..end]
-    } else {
-        &[]
-    }
-}
 
 fn add_class(alloc: Global, all: &mut Items<Class>, name: &[u8]) -> Result<(), NoMemory>
     ensures { OnOk result (all.new ≡ all.old ++ child name.now ∷ []) }
@@ -79,12 +67,8 @@ fn add_native(
     Ok(())
 }
 
-fn make_methods(
-    alloc: Global,
-    source: &[u8],
-    methods: &[MethodDecl],
-) -> Result<Items<Method>, NoMemory>
-    ensures { IfOk result (λ all. all ≡ native_methods ++ map (method_of source.now) methods.now) }
+fn make_methods(alloc: Global, methods: &[MethodDecl]) -> Result<Items<Method>, NoMemory>
+    ensures { IfOk result (λ all. all ≡ native_methods ++ map method_of methods.now) }
 {
     let mut all = Items::new(alloc);
     add_native(alloc, &mut all, 0, b"==", 1, 0)?;
@@ -92,7 +76,7 @@ fn make_methods(
     add_native(alloc, &mut all, 0, b"noSuchMethod", 1, 2)?;
     add_native(alloc, &mut all, 3, b"toString", 0, 3)?;
     for method in methods {
-        let name = Items::from_slice(alloc, text_of(source, method.name))?;
+        let name = Items::from_slice(alloc, method.name.as_slice())?;
         all.push(Method {
             owner: ClassId(7),
             kind: SelectorKind::Call,
@@ -104,16 +88,12 @@ fn make_methods(
     Ok(all)
 }
 
-fn make_selectors(
-    alloc: Global,
-    source: &[u8],
-    prints: &[PrintStmt],
-) -> Result<Items<Selector>, NoMemory>
-    ensures { IfOk result (λ all. all ≡ selectors source.now prints.now) }
+fn make_selectors(alloc: Global, prints: &[PrintStmt]) -> Result<Items<Selector>, NoMemory>
+    ensures { IfOk result (λ all. all ≡ selectors prints.now) }
 {
     let mut all = Items::new(alloc);
     for print in prints {
-        let name = Items::from_slice(alloc, text_of(source, print.method))?;
+        let name = Items::from_slice(alloc, print.method.as_slice())?;
         all.push(Selector {
             kind: SelectorKind::Call,
             name,
@@ -162,16 +142,16 @@ pub fn make_body(alloc: Global, prints: &[PrintStmt]) -> Result<Items<PrintCall>
     Ok(all)
 }
 
-/// The numbered program of a tree.
-pub fn make_program(alloc: Global, source: &[u8], tree: &Tree) -> Result<Numbered, NoMemory>
-    requires methods { length tree.now.methods ≤ 1000 }
-    requires prints { length tree.now.prints ≤ 1000 }
-    ensures { IfOk result (IsProgramOf source.now tree.now) }
+/// The numbered program.
+pub fn make_program(alloc: Global, form: &Form) -> Result<Numbered, NoMemory>
+    requires methods { length form.now.methods ≤ 1000 }
+    requires prints { length form.now.prints ≤ 1000 }
+    ensures { IfOk result (IsProgramOf form.now) }
 {
-    let classes = make_classes(alloc, text_of(source, tree.class))?;
-    let methods = make_methods(alloc, source, tree.methods.as_slice())?;
-    let selectors = make_selectors(alloc, source, tree.prints.as_slice())?;
-    let sites = make_sites(alloc, tree.prints.as_slice())?;
+    let classes = make_classes(alloc, form.class.as_slice())?;
+    let methods = make_methods(alloc, form.methods.as_slice())?;
+    let selectors = make_selectors(alloc, form.prints.as_slice())?;
+    let sites = make_sites(alloc, form.prints.as_slice())?;
     Ok(Numbered {
         classes,
         methods,

@@ -3,15 +3,15 @@ ghost use Rattle.std.specs.Prelude.{◌≡◌, ◌≤◌, ◌<◌, ◌+◌, ◌+
 ghost use Rattle.std.specs.List.{flat_map, enumerate_from};
 ghost use Rattle.std.specs.Fmt.{decimal};
 ghost use Rattle.call_cell.specs.Sites.{state_at};
-ghost use Rattle.dart_sites.specs.Numbering.{text_of};
-ghost use Rattle.dart_sites.specs.Report.{line_at, column_at, ending_text, name_of, state_text, site_line, site_lines, statement_site, prelude_sites, sites_of, printed, entry_part};
+ghost use Rattle.dart_sites.specs.Report.{ending_text, name_of, state_text, site_line, site_lines, statement_site, prelude_sites, sites_of, printed, entry_part};
 
-use crate::numbering::text_of;
+use crate::places::push_place;
 use crate::running::{Ending, Running};
-use crate::tree::{PrintStmt, Tree};
+use crate::text::{push, push_number};
 use call_cell::PlainCells;
 use ds_base::NoMemory;
-use program::{Class, ClassId, SiteId};
+use first_form::{Form, PrintStmt};
+use first_program::{Class, ClassId, SiteId};
 use sqlite_items::Items;
 use std::alloc::Global;
 
@@ -22,63 +22,19 @@ pub struct SiteText {
     pub place: Items<u8>,
 }
 
-fn push(out: &mut Vec<u8>, bytes: &[u8]) -> Result<(), NoMemory>
-    ensures { OnOk result (out.new.items ≡ out.old.items ++ bytes.now) }
-{
-    out.extend_from_slice(bytes)?;
-    Ok(())
-}
-
-fn push_number(alloc: Global, out: &mut Vec<u8>, n: u64) -> Result<(), NoMemory>
-    ensures { OnOk result (out.new.items ≡ out.old.items ++ decimal n) }
-{
-    let text = n.to_string(alloc)?;
-    push(out, text.as_bytes())
-}
-
 // ---- sites
-
-fn line_at(source: &[u8], place: usize) -> u64
-    requires { length source.now ≤ 1048576 }
-    ensures { result ≡ line_at source.now place }
-{
-    let front = &source[..place.min(source.len())];
-    1 + front.iter().filter(|b| **b == b'\n').count() as u64
-}
-
-fn column_at(source: &[u8], place: usize) -> u64
-    requires { length source.now ≤ 1048576 }
-    ensures { result ≡ column_at source.now place }
-{
-    let front = &source[..place.min(source.len())];
-    1 + back_to_line_feed(front) as u64
-}
-
-fn back_to_line_feed(front: &[u8]) -> usize
-    ensures exact { result ≡ length (take_while (λ b. not (b == 10)) (reverse front.now)) }
-    ensures within { result ≤ length front.now }
-{
-    front.iter().rev().take_while(|b| **b != b'\n').count()
-}
-
-fn place_text(alloc: Global, source: &[u8], place: usize) -> Result<Items<u8>, NoMemory>
-    requires { length source.now ≤ 1048576 }
-    ensures { IfOk result (λ text. text ≡ decimal (line_at source.now place) ++ codes ":" ++ decimal (column_at source.now place)) }
-{
-    let mut text = Vec::new(alloc);
-    push_number(alloc, &mut text, line_at(source, place))?;
-    push(&mut text, b":")?;
-    push_number(alloc, &mut text, column_at(source, place))?;
-    Ok(Items::from_vec(text))
-}
 
 fn statement_site(alloc: Global, source: &[u8], print: &PrintStmt) -> Result<SiteText, NoMemory>
     requires { length source.now ≤ 1048576 }
     ensures { IfOk result (λ site. site ≡ statement_site source.now print.now) }
 {
-    let member = Items::from_slice(alloc, text_of(source, print.method))?;
-    let place = place_text(alloc, source, print.method.start)?;
-    Ok(SiteText { member, place })
+    let member = Items::from_slice(alloc, print.method.as_slice())?;
+    let mut place = Vec::new(alloc);
+    push_place(alloc, &mut place, source, print.place as usize)?;
+    Ok(SiteText {
+        member,
+        place: Items::from_vec(place),
+    })
 }
 
 fn push_prelude_site(alloc: Global, all: &mut Items<SiteText>, place: &[u8]) -> Result<(), NoMemory>
@@ -91,12 +47,12 @@ fn push_prelude_site(alloc: Global, all: &mut Items<SiteText>, place: &[u8]) -> 
 }
 
 /// The sites of a source by their numbers: those of the statements, and then those of the prelude.
-fn sites_of(alloc: Global, source: &[u8], tree: &Tree) -> Result<Items<SiteText>, NoMemory>
+fn sites_of(alloc: Global, source: &[u8], form: &Form) -> Result<Items<SiteText>, NoMemory>
     requires { length source.now ≤ 1048576 }
-    ensures { IfOk result (λ all. all ≡ sites_of source.now tree.now) }
+    ensures { IfOk result (λ all. all ≡ sites_of source.now form.now) }
 {
     let mut all = Items::new(alloc);
-    for print in tree.prints.as_slice() {
+    for print in form.prints.as_slice() {
         all.push(statement_site(alloc, source, print)?)?;
     }
     push_prelude_site(alloc, &mut all, b"print")?;
@@ -252,20 +208,20 @@ fn push_entry(
 pub fn run_report(
     alloc: Global,
     source: &[u8],
-    tree: &Tree,
+    form: &Form,
     classes: &[Class],
     run: &Running,
     ending: Ending,
     cells: &PlainCells,
 ) -> Result<Vec<u8>, NoMemory>
     requires source { length source.now ≤ 1048576 }
-    requires few { length tree.now.prints ≤ 1000 }
-    requires calls { length run.now.calls ≡ length tree.now.prints + 2 }
-    requires cells { length cells.now ≡ length tree.now.prints + 2 }
+    requires few { length form.now.prints ≤ 1000 }
+    requires calls { length run.now.calls ≡ length form.now.prints + 2 }
+    requires cells { length cells.now ≡ length form.now.prints + 2 }
     ensures { IfOk result (λ text. text.items ≡ entry_part 0 (codes "main") run.now.lines ending
-        ++ site_lines classes.now (slice_index run.now.calls) (state_at cells.now) (sites_of source.now tree.now)) }
+        ++ site_lines classes.now (slice_index run.now.calls) (state_at cells.now) (sites_of source.now form.now)) }
 {
-    let sites = sites_of(alloc, source, tree)?;
+    let sites = sites_of(alloc, source, form)?;
     let mut out = Vec::new(alloc);
     push_entry(alloc, &mut out, 0, b"main", run, ending)?;
     let calls = run.calls.as_slice();

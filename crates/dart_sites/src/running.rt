@@ -1,15 +1,15 @@
 // Runs `main` of a program over any cells.
 ghost use Rattle.std.specs.Prelude.{◌≡◌, ◌<◌, ◌≤◌, ◌-◌, ◌+◌, ◌^◌, ◌++◌, ℕ, length, IfOk, All, slice_index, None};
-ghost use Rattle.program.specs.Numbered.{selector_of, IsConcrete};
-ghost use Rattle.program.specs.Lookup.{resolve};
+ghost use Rattle.first_program.specs.Numbered.{selector_of, IsConcrete};
+ghost use Rattle.first_program.specs.Lookup.{resolve};
 ghost use Rattle.std.specs.Fmt.{decimal};
 ghost use Rattle.dart_sites.specs.Running.{Did, number_at, print_act, at_start};
 ghost use Rattle.dart_sites.specs.Meaning.{Part, ask, spend, emit, each, ◌▹◌};
 
 use call_cell::Cells;
 use ds_base::{NoMemory, Steps};
-use method_lookup::Linked;
-use program::{Body, ClassId, SiteId, Target};
+use first_lookup::Linked;
+use first_program::{Body, ClassId, SiteId, Target};
 use sqlite_items::Items;
 use std::alloc::Global;
 use std::sync::ledger::Ledger;

@@ -17,6 +17,8 @@ pub enum Status {
     TooLarge,
     /// The bytes are no source of the language.
     SyntaxRefused,
+    /// The source has a form that is not run yet.
+    NameRefused,
     /// A write of the text failed.
     WriteFault,
     /// Memory was wanting.
@@ -35,6 +37,7 @@ impl Status {
             Status::ReadFault => 3,
             Status::TooLarge => 4,
             Status::SyntaxRefused => 5,
+            Status::NameRefused => 6,
             Status::WriteFault => 8,
             Status::NoMemory => 9,
         }

@@ -1,23 +1,24 @@
 // From the bytes of a source to the text of a request.
-ghost use Rattle.std.specs.Prelude.{◌≡◌, ◌≤◌, ◌<◌, length, IfOk, MatchOption};
-ghost use Rattle.dart_sites.specs.Source.{IsSource, IsNamed};
+ghost use Rattle.std.specs.Prelude.{◌≡◌, ◌≤◌, ◌<◌, length, IfOk};
+ghost use Rattle.dart_syntax.specs.View.{unit};
+ghost use Rattle.first_form.specs.Names.{IsNamed};
+ghost use Rattle.dart_sites.specs.Source.{IsTreeOf};
 ghost use Rattle.dart_sites.specs.Numbering.{IsProgramOf, body_from};
 ghost use Rattle.dart_sites.specs.Report.{text_of_run};
 ghost use Rattle.dart_sites.specs.Entry.{entry_meaning, is_done};
-ghost use Rattle.dart_sites.specs.Top.{NoSource, RunSays, OutcomeSays};
+ghost use Rattle.dart_sites.specs.Top.{OutcomeSays};
 
-use crate::checking::is_named;
-use crate::grammar::parse;
-use crate::lexing::tokens;
 use crate::numbering::{make_body, make_program};
 use crate::report::run_report;
 use crate::running::{Ending, PrintCall, run_main};
-use crate::tree::Tree;
+use crate::source::{Read, read_tree, refusal_line};
 use crate::words::Request;
 use call_cell::PlainCells;
+use dart_syntax::Tree;
 use ds_base::{NoMemory, Steps};
-use method_lookup::Linked;
-use program::SiteId;
+use first_form::{Form, form_of};
+use first_lookup::Linked;
+use first_program::SiteId;
 use std::alloc::Global;
 use std::marker::Brand;
 use std::sync::ledger::{Blank, Ledger};
@@ -32,25 +33,11 @@ pub struct Told {
 /// What came of the bytes of a source.
 pub enum Outcome {
     Told(Told),
-    NoSource,
+    /// They are no source; the line says why.
+    Refused(Vec<u8>),
+    /// They are a source, of a form that is not run yet.
+    Unbuilt,
     NoMemory,
-}
-
-/// The tree of a source.
-fn read_tree(alloc: Global, source: &[u8]) -> Result<Option<Tree>, NoMemory>
-    ensures { IfOk result (λ found. MatchOption found (NoSource source.now) (IsSource source.now)) }
-{
-    let list = tokens(alloc, source)?;
-    match parse(alloc, list.as_slice())? {
-        Some(tree) => {
-            if is_named(source, &tree) {
-                Ok(Some(tree))
-            } else {
-                Ok(None)
-            }
-        }
-        None => Ok(None),
-    }
 }
 
 fn is_done(ending: Ending) -> bool
@@ -62,11 +49,11 @@ fn is_done(ending: Ending) -> bool
     }
 }
 
-/// Runs the numbered program of this tree, with a counter of its own.
+/// Runs the numbered program of a program of the first form, with a counter of its own.
 fn run_program<L: Ledger>(
     alloc: Global,
     source: &[u8],
-    tree: &Tree,
+    form: &Form,
     linked: &Linked,
     body: &[PrintCall],
     turns: u64,
@@ -76,40 +63,40 @@ fn run_program<L: Ledger>(
     requires parts { blank.parts ≡ L.parts }
     requires some { 0 < blank.parts }
     requires source { length source.now ≤ 1048576 }
-    requires named { IsNamed source.now tree.now }
-    requires program { IsProgramOf source.now tree.now linked.now.program }
-    requires body { body.now ≡ body_from 0 tree.now.prints }
-    ensures text { IfOk result (λ told. told.text.items ≡ text_of_run source.now tree.now turns) }
-    ensures done { IfOk result (λ told. told.all_done ≡ is_done (entry_meaning source.now tree.now turns).ending) }
+    requires named { IsNamed form.now }
+    requires program { IsProgramOf form.now linked.now.program }
+    requires body { body.now ≡ body_from 0 form.now.prints }
+    ensures text { IfOk result (λ told. told.text.items ≡ text_of_run source.now form.now turns) }
+    ensures done { IfOk result (λ told. told.all_done ≡ is_done (entry_meaning form.now turns).ending) }
 {
     let mut steps = Steps::<L>::begin(blank);
     let mut cells = PlainCells::build(alloc, linked)?;
-    let print_site = SiteId(tree.prints.len() as u32);
+    let print_site = SiteId(form.prints.len() as u32);
     let ended = run_main(
         alloc, linked, &mut cells, body, print_site, turns, &mut steps,
     )?;
     let ending = ended.ending.unwrap_or(Ending::Done);
     let classes = linked.program().classes.as_slice();
-    let text = run_report(alloc, source, tree, classes, &ended.run, ending, &cells)?;
+    let text = run_report(alloc, source, form, classes, &ended.run, ending, &cells)?;
     Ok(Told {
         text,
         all_done: is_done(ending),
     })
 }
 
-/// Runs the source of this tree.
-fn run_tree(alloc: Global, source: &[u8], tree: &Tree, turns: u64) -> Result<Told, NoMemory>
+/// Runs a program of the first form.
+fn run_form(alloc: Global, source: &[u8], form: &Form, turns: u64) -> Result<Told, NoMemory>
     requires source { length source.now ≤ 1048576 }
-    requires named { IsNamed source.now tree.now }
-    ensures text { IfOk result (λ told. told.text.items ≡ text_of_run source.now tree.now turns) }
-    ensures done { IfOk result (λ told. told.all_done ≡ is_done (entry_meaning source.now tree.now turns).ending) }
+    requires named { IsNamed form.now }
+    ensures text { IfOk result (λ told. told.text.items ≡ text_of_run source.now form.now turns) }
+    ensures done { IfOk result (λ told. told.all_done ≡ is_done (entry_meaning form.now turns).ending) }
 {
-    let body = make_body(alloc, tree.prints.as_slice())?;
-    let linked = Linked::build(alloc, make_program(alloc, source, tree)?)?;
+    let body = make_body(alloc, form.prints.as_slice())?;
+    let linked = Linked::build(alloc, make_program(alloc, form)?)?;
     run_program::<Brand>(
         alloc,
         source,
-        tree,
+        form,
         &linked,
         body.as_slice(),
         turns,
@@ -117,15 +104,16 @@ fn run_tree(alloc: Global, source: &[u8], tree: &Tree, turns: u64) -> Result<Tol
     )
 }
 
-/// Runs the entry `main` of a source.
-fn run_bytes(alloc: Global, source: &[u8], turns: u64) -> Outcome
-    requires { length source.now ≤ 1048576 }
+/// Runs the entry `main` of the source with this tree.
+fn run_tree(alloc: Global, source: &[u8], tree: &Tree, turns: u64) -> Outcome
+    requires source { length source.now ≤ 1048576 }
+    requires tree { IsTreeOf source.now (unit tree.now) }
     ensures { OutcomeSays (Request.Run turns) source.now result }
 {
-    match read_tree(alloc, source) {
+    match form_of(alloc, tree) {
         Err(_) => Outcome::NoMemory,
-        Ok(None) => Outcome::NoSource,
-        Ok(Some(tree)) => match run_tree(alloc, source, &tree, turns) {
+        Ok(None) => Outcome::Unbuilt,
+        Ok(Some(form)) => match run_form(alloc, source, &form, turns) {
             Ok(told) => Outcome::Told(told),
             Err(_) => Outcome::NoMemory,
         },
@@ -137,7 +125,14 @@ pub fn tell(alloc: Global, request: Request, source: &[u8]) -> Outcome
     requires { length source.now ≤ 1048576 }
     ensures { OutcomeSays request source.now result }
 {
-    match request {
-        Request::Run { turns } => run_bytes(alloc, source, turns),
+    match read_tree(alloc, source) {
+        Read::NoMemory => Outcome::NoMemory,
+        Read::Refused(refusal) => match refusal_line(alloc, source, refusal) {
+            Ok(line) => Outcome::Refused(line),
+            Err(_) => Outcome::NoMemory,
+        },
+        Read::Tree(tree) => match request {
+            Request::Run { turns } => run_tree(alloc, source, &tree, turns),
+        },
     }
 }

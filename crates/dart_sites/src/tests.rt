@@ -119,29 +119,61 @@ fn refuses_words_and_reads_nothing(rt: HostRuntime) -> Result<(), Fail> {
 
 #[test]
 fn refuses_what_is_no_source(rt: HostRuntime) -> Result<(), Fail> {
+    for (text, held) in [
+        ("f() => 0x;", "refused: BadChar at 1:8\n"),
+        ("'a\n", "refused: UnclosedString at 1:1\n"),
+        ("\n\nclass A {", "refused: Syntax at 3:10\n"),
+        (
+            "class A { m() => 7; } main() { print(A().m()); } ;",
+            "refused: Syntax at 1:50\n",
+        ),
+        (
+            "classA { m() => 7; } main() { print(A().m()); }",
+            "refused: Syntax at 1:8\n",
+        ),
+    ] {
+        let line = "run 100 1 main";
+        let text = text.as_bytes();
+        expect(
+            &rt,
+            line,
+            text,
+            &[],
+            &[],
+            Status::SyntaxRefused,
+            held.as_bytes(),
+        )?;
+    }
+    Ok(())
+}
+
+#[test]
+fn refuses_other_forms(rt: HostRuntime) -> Result<(), Fail> {
     for text in [
         "",
+        "main() {}",
         "class A { m() => 7; } main() { print(B().m()); }",
         "class A { m() => 7; } main() { print(A().n()); }",
         "class A { m() => 7; m() => 8; } main() { print(A().m()); }",
-        "class A { A() => 7; } main() { print(A().A()); }",
-        "class while { m() => 7; } main() { print(while().m()); }",
+        "class A { void A() => 7; } main() { print(A().A()); }",
         "class A { length() => 7; } main() { print(A().length()); }",
-        "class A { m() => 9223372036854775808; } main() { print(A().m()); }",
-        "class A { m() => 7; } main() { print(A().m()); } ;",
-        "class A { m() => 7; }\tmain() { print(A().m()); }",
-        "classA { m() => 7; } main() { print(A().m()); }",
+        "class A { m() => 0xffffffffffffffff; } main() { print(A().m()); }",
+        "class A { m(x) => 7; } main() { print(A().m()); }",
+        "class A { m() => 7; } main() { print(A().m(), 1); }",
+        "class A { m() => 7; } main() { print(A().m().m()); }",
+        "class A extends Object { m() => 7; } main() { print(A().m()); }",
+        "main() { print(A().m()); } class A { m() => 7; }",
     ] {
         let line = "run 100 1 main";
-        let refused = b"refused: source\n";
+        let held = b"refused: unbuilt\n";
         expect(
             &rt,
             line,
             text.as_bytes(),
             &[],
             &[],
-            Status::SyntaxRefused,
-            refused,
+            Status::NameRefused,
+            held,
         )?;
     }
     Ok(())
@@ -163,14 +195,14 @@ fn reads_up_to_the_limit(rt: HostRuntime) -> Result<(), Fail> {
         too_large,
     )?;
     let spaces = vec![in alloc; b' '; 1_048_576]?;
-    let refused = b"refused: source\n";
+    let refused = b"refused: unbuilt\n";
     expect(
         &rt,
         run,
         spaces.as_slice(),
         &[],
         &[],
-        Status::SyntaxRefused,
+        Status::NameRefused,
         refused,
     )
 }
@@ -198,7 +230,7 @@ fn runs_a_thousand_methods(rt: HostRuntime) -> Result<(), Fail> {
     for (count, turns, status) in [
         (1000, "run 2001 1 main", Status::Done),
         (1000, "run 2000 1 main", Status::EntryFault),
-        (1001, "run 2001 1 main", Status::SyntaxRefused),
+        (1001, "run 2001 1 main", Status::NameRefused),
     ] {
         let text = many_methods(&rt, count)?;
         let words = words_of(&rt, turns)?;

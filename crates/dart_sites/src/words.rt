@@ -1,16 +1,40 @@
 // What the words of the command line ask for.
-ghost use Rattle.std.specs.Prelude.{◌≡◌, ◌≢◌, ◌↔◌, ◌≤◌, ◌<◌, ◌-◌, ◌^◌, ℕ, MatchOption, IsSome, IfSome, map, string_bytes, true, false, not, nat_le, ◌&&◌};
-ghost use Rattle.dart_sites.specs.Words.{Asks, AsksWorkers, NoRequest, IsNumber, is_plain, texts};
-ghost use Rattle.dart_sites.specs.Tokens.{digits_value};
+ghost use Rattle.std.specs.Prelude.{◌≡◌, ◌≤◌, ◌<◌, ◌-◌, ◌^◌, ℕ, MatchOption, min, true};
+ghost use Rattle.dart_sites.specs.Words.{Asks, AsksWorkers, NoRequest, IsNumber, is_plain, is_digit_byte, digits_value, texts};
+ghost use Rattle.std.specs.List.{list_all};
 ghost use Rattle.dart_sites.specs.declared.words.Request.{Request};
-
-use crate::lexing;
 
 /// What the words ask for.
 #[derive(Clone, Copy, Debug, PartialEq, Eq)]
 pub enum Request {
     /// `run TURNS 1 main`: the entry `main`, with 1 to 1,000,000,000 turns.
     Run { turns: u64 },
+}
+
+fn is_digit_byte(b: u8) -> bool
+    ensures { result ≡ is_digit_byte b }
+{
+    b >= b'0' && b <= b'9'
+}
+
+fn is_all_digits(text: &[u8]) -> bool
+    ensures { result ≡ list_all is_digit_byte text.now }
+{
+    text.iter().all(|b| is_digit_byte(*b))
+}
+
+/// The number that digits write, or the greatest `u64` where it is no less.
+fn digits_value(text: &[u8]) -> u64
+    requires { list_all is_digit_byte text.now ≡ true }
+    ensures { result ≡ min (digits_value text.now) (2 ^ 64 - 1) }
+{
+    let mut value = 0u64;
+    for b in text {
+        value = value
+            .saturating_mul(10)
+            .saturating_add(u64::from(*b - b'0'));
+    }
+    value
 }
 
 /// The number that a word writes in plain digits.
@@ -20,7 +44,7 @@ fn number(text: &[u8]) -> Option<u64>
     if !is_plain(text) {
         return None;
     }
-    let value = lexing::digits_value(text);
+    let value = digits_value(text);
     if value < u64::MAX { Some(value) } else { None }
 }
 
@@ -31,7 +55,7 @@ fn is_plain(text: &[u8]) -> bool
         [] => false,
         [b'0'] => true,
         [b'0', ..] => false,
-        _ => lexing::is_all_digits(text),
+        _ => is_all_digits(text),
     }
 }
 

@@ -3,4 +3,4 @@ use Rattle.dart_sites.specs.Report.{statement_site}
 use Rattle.dart_sites.proofs.report.sites_of.Given as goal
 
 abbrev pub invariant-loop-print : goal.invariant-loop-print
-invariant-loop-print l = l.all ≡ map (statement_site l.source) (take l.print-index l.tree.prints)
+invariant-loop-print l = l.all ≡ map (statement_site l.source) (take l.print-index l.form.prints)

@@ -1,5 +1,5 @@
 use Rattle.std.proofs.Common.{◌≡◌, ◌∙◌, sym, ap, None, refl, ◌++◌, ◌∷◌, []}
-use Rattle.program.specs.Numbered.{selector_of}
+use Rattle.first_program.specs.Numbered.{selector_of}
 use Rattle.std.specs.Fmt.{decimal}
 use Rattle.dart_sites.specs.Meaning.{ask, spend, emit}
 use Rattle.dart_sites.specs.Running.{Did, number_at}
