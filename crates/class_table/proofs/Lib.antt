@@ -1,0 +1,5 @@
+pub mod Telling
+pub mod Words
+pub mod Ways
+pub mod Filling
+pub mod Building

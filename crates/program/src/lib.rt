@@ -1,0 +1,17 @@
+//! Numbered programs: classes, methods, functions, selectors, sites and globals by number, and what is true of each.
+#![tactic(auto)]
+
+mod body;
+mod built_in;
+mod ids;
+mod literal;
+mod numbered;
+
+pub use body::{Binary, Body, Compound, Expression, First, Link, Piece, Spot, Statement};
+pub use built_in::built_in_program;
+pub use ids::{ClassId, EntryId, MethodId, NativeId, SelectorId, SiteId, UnitId};
+pub use literal::{Literal, Text};
+pub use numbered::{
+    Class, Constructor, Field, Function, Method, MethodBody, Numbered, Place, Selector,
+    SelectorKind, Site, Target,
+};
