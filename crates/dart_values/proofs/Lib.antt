@@ -1,0 +1,9 @@
+pub mod Wraps
+pub mod Growth
+pub mod Addresses
+pub mod Joined
+pub mod ListChanges
+pub mod NativeIs
+pub mod FieldChanges
+pub mod Classes
+pub mod Examples

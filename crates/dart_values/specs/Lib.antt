@@ -1,0 +1,7 @@
+pub mod Values
+pub mod Members
+pub mod Numbers
+pub mod Natives
+pub mod Reads
+pub mod Store
+pub mod Doing
