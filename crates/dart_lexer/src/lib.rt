@@ -11,8 +11,6 @@ mod number;
 mod open;
 mod sign;
 mod step;
-#[cfg(test)]
-mod tests;
 mod text;
 mod whole;
 mod word;

@@ -10,11 +10,7 @@ mod native;
 mod numbers;
 mod objects;
 mod reading;
-#[cfg(test)]
-mod rows;
 mod strings;
-#[cfg(test)]
-mod tests;
 mod value;
 
 pub use fault::{Fault, Trap};
