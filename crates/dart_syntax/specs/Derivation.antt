@@ -9,7 +9,7 @@ use Rattle.dart_syntax.specs.declared.token.TokenKind.TheVariants as kind
 use Rattle.dart_syntax.specs.declared.tree.Name.{Name}
 use Rattle.dart_syntax.specs.declared.tree.Unary.TheVariants as u
 use Rattle.dart_syntax.specs.Syntax as tree
-use Rattle.dart_syntax.specs.Syntax.{Exp, Sta, Local, Exps, Stas, exps, stas, a_local, Param, Body, Member, Top, a_param, function_of, class_of}
+use Rattle.dart_syntax.specs.Syntax.{Exp, Sta, Local, Stas, exps, stas, Passed, passing, a_local, Param, Body, Member, Top, a_param, function_of, class_of}
 use Rattle.dart_syntax.specs.Words.{Tokens, token, sign, keyword}
 use Rattle.dart_syntax.specs.Operators.{named}
 use Rattle.dart_syntax.specs.Grammar.{Reading, Many, Args, is_var, ExprWithin, StmtWithin}
@@ -155,10 +155,10 @@ module _ (Inner : Reading Sta) (Whole : Reading Exp) where
     some : {b : Stas} {ts rest : Tokens} → Block ts b rest → SomeBlock ts (Some b) rest
 
   -- what follows a constructor's parameters: what it passes to its superclass, and its body
-  pub data Rest : Tokens → Option Exps → Option Stas → Tokens → Type 0 where
+  pub data Rest : Tokens → Option Passed → Option Stas → Tokens → Type 0 where
     plain : {b : Option Stas} {ts rest : Tokens} → SomeBlock ts b rest → Rest ts None b rest
     passes : {a b c : Span} {xs : List Exp} {y : Option Stas} {ts us rest : Tokens} → Args Whole s.ParenClose ts xs us → SomeBlock us y rest
-        → Rest (sign s.Colon a ∷ keyword k.Super b ∷ sign s.ParenOpen c ∷ ts) (Some (exps xs)) y rest
+        → Rest (sign s.Colon a ∷ keyword k.Super b ∷ sign s.ParenOpen c ∷ ts) (Some (passing b (exps xs))) y rest
 
   -- A member of the class of this name. Its name before a `(`, with no word before it, is its constructor.
   pub data MemberText (class : List ℕ) : Tokens → Member → Tokens → Type 0 where
@@ -173,7 +173,7 @@ module _ (Inner : Reading Sta) (Whole : Reading Exp) where
         → ParamText false us p (sign s.ParenClose d ∷ vs) → SomeBody vs y rest → MemberText class ts (tree.setter (named n b) p y) rest
     operator : {r : Bool} {o : Operator} {a b c : Span} {ps : List Param} {y : Option Body} {ts us vs ws rest : Tokens} → Ret ts r (keyword k.Operator a ∷ us)
         → OperatorText us o b (sign s.ParenOpen c ∷ vs) → Params false vs ps ws → takes o (length ps) ≡ true → SomeBody ws y rest → MemberText class ts (tree.operator o b ps y) rest
-    constructor : {n : List ℕ} {a b : Span} {ps : List Param} {xs : Option Exps} {y : Option Stas} {ts us rest : Tokens} → same_text n class ≡ true → Params true ts ps us → Rest us xs y rest
+    constructor : {n : List ℕ} {a b : Span} {ps : List Param} {xs : Option Passed} {y : Option Stas} {ts us rest : Tokens} → same_text n class ≡ true → Params true ts ps us → Rest us xs y rest
         → MemberText class (token (kind.Name n) a ∷ sign s.ParenOpen b ∷ ts) (tree.constructor (named n a) ps xs y) rest
 
   -- behind `class`

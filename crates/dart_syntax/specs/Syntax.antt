@@ -103,14 +103,21 @@ pub record Function : Type 0 where
   pub params : List Param
   pub body : Body
 
--- The expressions of a constructor are what it passes to its superclass.
+-- what a constructor passes to its superclass, at the word `super`
+pub record Passed : Type 0 where
+  pub at : Span
+  pub args : Exps
+
+abbrev pub passing : Span → Exps → Passed
+passing at args = record { at = at; args = args }
+
 pub data Member : Type 0 where
   field : Local → Member
   method : Name → List Param → Option Body → Member
   getter : Name → Option Body → Member
   setter : Name → Param → Option Body → Member
   operator : Operator → Span → List Param → Option Body → Member
-  constructor : Name → List Param → Option Exps → Option Stas → Member
+  constructor : Name → List Param → Option Passed → Option Stas → Member
 
 pub record ClassDecl : Type 0 where
   pub name : Name

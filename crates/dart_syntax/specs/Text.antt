@@ -14,7 +14,7 @@ use Rattle.dart_syntax.specs.declared.tree.Operator.{Operator}
 use Rattle.dart_syntax.specs.declared.tree.Operator.TheVariants as operator_
 use Rattle.dart_syntax.specs.Derivation.{same_text}
 use Rattle.dart_syntax.specs.Syntax as tree
-use Rattle.dart_syntax.specs.Syntax.{Exp, Exps, Pieces, Links, Selectors, Selector, Local, First, Sta, Stas, Param, Body, Member, Function, ClassDecl, Top, Tree}
+use Rattle.dart_syntax.specs.Syntax.{Exp, Exps, Pieces, Links, Selectors, Selector, Local, First, Sta, Stas, Param, Body, Member, Passed, Function, ClassDecl, Top, Tree}
 
 -- a token, and the space behind it
 abbrev pub word : List ℕ → List ℕ
@@ -255,9 +255,9 @@ some_block_text None = word (codes ";")
 some_block_text (Some all) = block_text all
 
 -- what a constructor passes to its superclass
-abbrev pub passed_text : Option Exps → List ℕ
+abbrev pub passed_text : Option Passed → List ℕ
 passed_text None = []
-passed_text (Some args) = word (codes ":") ++ (word (codes "super") ++ (word (codes "(") ++ (exps_text args ++ word (codes ")"))))
+passed_text (Some p) = word (codes ":") ++ (word (codes "super") ++ (word (codes "(") ++ (exps_text p.args ++ word (codes ")"))))
 
 -- A method that has its class's own name begins with `void`.
 abbrev pub member_text : List ℕ → Member → List ℕ

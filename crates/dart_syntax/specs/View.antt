@@ -16,6 +16,7 @@ use Rattle.dart_syntax.specs.declared.tree.Param.{Param}
 use Rattle.dart_syntax.specs.declared.tree.Body.{Body}
 use Rattle.dart_syntax.specs.declared.tree.Body.TheVariants as body_
 use Rattle.dart_syntax.specs.declared.tree.Function.{Function}
+use Rattle.dart_syntax.specs.declared.tree.Passed.{Passed}
 use Rattle.dart_syntax.specs.declared.tree.Member.{Member}
 use Rattle.dart_syntax.specs.declared.tree.Member.TheVariants as member_
 use Rattle.dart_syntax.specs.declared.tree.ClassDecl.{ClassDecl}
@@ -111,13 +112,16 @@ body (body_.Block xs) = tree.code (all_stas xs)
 abbrev pub function : Function → tree.Function
 function f = tree.function_of f.is_entry f.name (map param f.params) (body f.body)
 
+abbrev pub passed : Passed → tree.Passed
+passed p = tree.passing p.span (all_exps p.args)
+
 abbrev pub member : Member → tree.Member
 member (member_.Field l) = tree.field (local l)
 member (member_.Method n ps b) = tree.method n (map param ps) (option_map body b)
 member (member_.Getter n b) = tree.getter n (option_map body b)
 member (member_.Setter n p b) = tree.setter n (param p) (option_map body b)
 member (member_.Operator op at ps b) = tree.operator op at (map param ps) (option_map body b)
-member (member_.Constructor n ps xs b) = tree.constructor n (map param ps) (option_map all_exps xs) (option_map all_stas b)
+member (member_.Constructor n ps xs b) = tree.constructor n (map param ps) (option_map passed xs) (option_map all_stas b)
 
 abbrev pub class : ClassDecl → tree.ClassDecl
 class c = tree.class_of c.is_abstract c.name c.parent c.interfaces (map member c.members)

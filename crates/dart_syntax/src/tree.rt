@@ -198,6 +198,13 @@ pub enum Operator {
     Set,
 }
 
+/// What a constructor passes to its superclass, at the word `super`.
+#[derive(Drop)]
+pub struct Passed {
+    pub span: Span,
+    pub args: Items<Expr>,
+}
+
 #[derive(Drop)]
 pub enum Member {
     Field(Local),
@@ -206,7 +213,7 @@ pub enum Member {
     Setter(Name, Param, Option<Body>),
     Operator(Operator, Span, Items<Param>, Option<Body>),
     /// Its parameters, what it passes to the superclass, and its body.
-    Constructor(Name, Items<Param>, Option<Items<Expr>>, Option<Items<Stmt>>),
+    Constructor(Name, Items<Param>, Option<Passed>, Option<Items<Stmt>>),
 }
 
 #[derive(Drop)]
