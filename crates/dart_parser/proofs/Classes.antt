@@ -1,8 +1,7 @@
 -- Metas, classes and whole units.
-use Rattle.std.proofs.Common.{◌≡◌, ℕ, zero, suc, ◌+◌, ◌-◌, ◌<◌, ◌≤◌, Bool, true, false, not, ◌||◌, ◌&&◌, List, [], ◌∷◌, ◌++◌, length, Option, Some, None, Ok, Err, refl, ap, sym, ◌∙◌, arith, codes}
+use Rattle.std.proofs.Common.{◌≡◌, ℕ, ◌<◌, ◌≤◌, Bool, true, false, List, [], ◌∷◌, length, Option, Some, None, Ok, Err, refl, arith, codes}
 use Rattle.dart_syntax.specs.declared.token.Span.{Span}
 use Rattle.dart_syntax.specs.declared.token.Sign.TheVariants as s
-use Rattle.dart_syntax.specs.declared.token.Keyword.{Keyword}
 use Rattle.dart_syntax.specs.declared.token.Keyword.TheVariants as k
 use Rattle.dart_syntax.specs.declared.token.TokenKind.{TokenKind}
 use Rattle.dart_syntax.specs.declared.token.TokenKind.TheVariants as tk
@@ -11,9 +10,9 @@ use Rattle.dart_syntax.specs.Syntax as tree
 use Rattle.dart_syntax.specs.Syntax.{Exp, Sta, Body, Member, Top}
 use Rattle.dart_syntax.specs.Words.{Tokens, token, sign, keyword}
 use Rattle.dart_syntax.specs.Operators.{named}
-use Rattle.dart_syntax.specs.Grammar.{Reading, Many, none, more, is_var}
+use Rattle.dart_syntax.specs.Grammar.{Reading, none, more}
 use Rattle.dart_expr.specs.declared.refusal.Refusal.{Refusal}
-use Rattle.dart_expr.specs.Input.{Parser, Outcome, and_then, many_from, same, same_keyword, sees, sees_keyword, after, after_keyword, expect, kind, span, next, is_end}
+use Rattle.dart_expr.specs.Input.{Parser, Outcome, many_from, same, same_keyword, sees, sees_keyword, expect, kind, span, next}
 use Rattle.dart_expr.specs.Model.{name}
 use Rattle.dart_expr.proofs.Facts.{sees_it, after_it, after_not, after_seen, expect_it, seen, expect_ok, sees_keyword_it, after_keyword_it, after_keyword_not, seen_keyword, after_keyword_seen, same_ok, split, via, some_not_none, none_not_some}
 use Rattle.dart_expr.proofs.Good.{Good}
@@ -23,8 +22,7 @@ use Rattle.dart_parser.proofs.Stmts.{GoodStmt}
 use Rattle.dart_syntax.specs.Derivation as gr
 use Rattle.dart_syntax.specs.Derivation.{same_text, marks_entry, any, Meta, Parent, CommaName, Interfaces, Marked, MemberText, ClassText, Ret, is_ret}
 use Rattle.dart_parser.specs.Tops.{mark_by, pragma, meta_by, meta, metas, parent, comma_name, more_names, interfaces, marked_member, member_item, members, class}
-use Rattle.dart_parser.specs.Members.{member}
-use Rattle.dart_syntax.proofs.Texts.{same_itself, same_is}
+use Rattle.dart_syntax.proofs.Texts.{same_is}
 use Rattle.dart_parser.proofs.Members.{member_complete, member_sound}
 use Rattle.dart_parser.proofs.Parts.{value_shorter, params_shorter, param_shorter, some_body_shorter, rest_shorter}
 

@@ -1,5 +1,5 @@
 -- Members of classes.
-use Rattle.std.proofs.Common.{◌≡◌, ℕ, zero, suc, ◌+◌, ◌-◌, ◌<◌, ◌≤◌, Bool, true, false, not, ◌||◌, ◌&&◌, List, [], ◌∷◌, ◌++◌, length, Option, Some, None, Ok, Err, refl, ap, sym, ◌∙◌, arith}
+use Rattle.std.proofs.Common.{◌≡◌, ℕ, Bool, true, false, not, ◌||◌, List, [], ◌∷◌, length, Option, Some, Ok, Err, refl}
 use Rattle.dart_syntax.specs.declared.token.Span.{Span}
 use Rattle.dart_syntax.specs.declared.token.Sign.{Sign}
 use Rattle.dart_syntax.specs.declared.token.Sign.TheVariants as s
@@ -7,25 +7,18 @@ use Rattle.dart_syntax.specs.declared.token.Keyword.{Keyword}
 use Rattle.dart_syntax.specs.declared.token.Keyword.TheVariants as k
 use Rattle.dart_syntax.specs.declared.token.TokenKind.{TokenKind}
 use Rattle.dart_syntax.specs.declared.token.TokenKind.TheVariants as tk
-use Rattle.dart_syntax.specs.declared.tree.Name.{Name}
 use Rattle.dart_syntax.specs.Syntax as tree
-use Rattle.dart_syntax.specs.Syntax.{Param, Exp, Sta, Exps, Stas, Body, Member}
+use Rattle.dart_syntax.specs.Syntax.{Param, Exp, Sta, Stas, Passed, Body, Member}
 use Rattle.dart_syntax.specs.Words.{Tokens, token, sign, keyword}
 use Rattle.dart_syntax.specs.Operators.{named}
-use Rattle.dart_syntax.specs.Grammar.{Reading, Many, StmtWithin, ExprWithin}
-use Rattle.dart_expr.specs.Input.{Parser, Outcome, and_then, same, same_keyword, sees, sees_keyword, after, expect, kind, span, next, Reads}
-use Rattle.dart_expr.specs.Model.{name, expr}
+use Rattle.dart_syntax.specs.Grammar.{Reading}
+use Rattle.dart_expr.specs.Input.{Parser, Outcome, and_then, same, sees, after, expect, span, next}
+use Rattle.dart_expr.specs.Model.{name}
 use Rattle.dart_expr.proofs.Facts.{sees_it, after_it, after_not, after_seen, expect_it, seen, expect_ok, same_ok, split, via, which}
 use Rattle.dart_expr.proofs.Good.{Good}
 use Rattle.dart_expr.proofs.Terms.{name_via}
-use Rattle.dart_parser.proofs.Stmts.{GoodStmt, stmt_good}
-use Rattle.dart_expr.proofs.Expressions.{expr_good}
+use Rattle.dart_parser.proofs.Stmts.{GoodStmt}
 use Rattle.dart_expr.specs.declared.refusal.Refusal.{Refusal}
-use Rattle.dart_expr.specs.declared.refusal.Refusal.TheVariants.{NoMemory, Syntax, TooDeep}
-use Rattle.dart_parser.specs.Statements.{stmt}
-use Rattle.std.specs.Prelude.{IfOk, MatchResult, Result}
-use Rattle.dart_syntax.specs.declared.tree.Member as declared
-use Rattle.dart_syntax.specs.View as view
 use Rattle.dart_syntax.specs.declared.tree.Operator.{Operator}
 use Rattle.dart_syntax.specs.declared.tree.Operator.TheVariants as op
 use Rattle.dart_syntax.specs.Derivation as gr
@@ -149,12 +142,12 @@ module _ (I : Reading Sta) (W : Reading Exp) (i : Parser Sta) (w : Parser Exp) (
   field_complete k.Dynamic false n a b v ts rest is d = let other = value_paren d in rw (other, after_not s.ParenOpen ts other, value_complete d)
   field_complete _ f n a b v ts rest is d = cc
 
-  made : (n : List ℕ) (a b : Span) (ps : List Param) (xs : Option Exps) (y : Option Stas) (ts us rest : Tokens) → same_text n class ≡ true → Params true ts ps us → Rest I W us xs y rest
+  made : (n : List ℕ) (a b : Span) (ps : List Param) (xs : Option Passed) (y : Option Stas) (ts us rest : Tokens) → same_text n class ≡ true → Params true ts ps us → Rest I W us xs y rest
       → member i w class (token (tk.Name n) a ∷ sign s.ParenOpen b ∷ ts) ≡ Ok (tree.constructor (named n a) ps xs y, rest)
   unfolding member plain function_member name constructor
   made n a b ps xs y ts us rest is d1 d2 = rw (expect_it s.ParenOpen b ts, is, params_complete true d1) (both (passed i w us) (rest_complete I W i w good_inner good d2))
     where
-      both : (o : Outcome (Option Exps)) → and_then {B = Option Exps × Option Stas} o (λ xs us. and_then (some_block i w us) (λ y vs. Ok ((xs, y), vs))) ≡ Ok ((xs, y), rest)
+      both : (o : Outcome (Option Passed)) → and_then {B = Option Passed × Option Stas} o (λ xs us. and_then (some_block i w us) (λ y vs. Ok ((xs, y), vs))) ≡ Ok ((xs, y), rest)
           → and_then o (λ xs us. and_then (some_block i w us) (λ y vs. Ok (tree.constructor (named n a) ps xs y, vs))) ≡ Ok (tree.constructor (named n a) ps xs y, rest)
       both o e = via o _ e (λ zs vs e1 e2. via (some_block i w vs) _ e2 (λ z ws e3 e4. rw (e1, e3) (same_ok (λ q rest. ◌≡◌ {A = Outcome Member} (Ok (tree.constructor (named n a) ps zs z, ws)) (Ok (tree.constructor (named n a) ps q.0 q.1, rest))) e4 refl)))
 

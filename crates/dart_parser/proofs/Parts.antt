@@ -1,5 +1,5 @@
 -- Literals, parameters and bodies: what the grammar has is read, and what is read is in the grammar.
-use Rattle.std.proofs.Common.{◌≡◌, ℕ, zero, suc, ◌+◌, ◌-◌, ◌<◌, ◌≤◌, Bool, true, false, List, [], ◌∷◌, ◌++◌, length, Option, Some, None, Ok, Err, refl, ap, sym, ◌∙◌, arith}
+use Rattle.std.proofs.Common.{◌≡◌, ℕ, ◌<◌, Bool, true, false, List, [], ◌∷◌, length, Option, Some, None, Ok, Err, refl, ap, arith}
 use Rattle.dart_syntax.specs.declared.token.Span.{Span}
 use Rattle.dart_syntax.specs.declared.token.Sign.TheVariants as s
 use Rattle.dart_syntax.specs.declared.token.Keyword.{Keyword}
@@ -7,14 +7,14 @@ use Rattle.dart_syntax.specs.declared.token.Keyword.TheVariants as k
 use Rattle.dart_syntax.specs.declared.token.TokenKind.{TokenKind}
 use Rattle.dart_syntax.specs.declared.token.TokenKind.TheVariants as tk
 use Rattle.dart_syntax.specs.Syntax as tree
-use Rattle.dart_syntax.specs.Syntax.{Param, Exp, Sta, Exps, Stas, Body, a_param}
+use Rattle.dart_syntax.specs.Syntax.{Param, Exp, Sta, Stas, Passed, Body, a_param}
 use Rattle.dart_syntax.specs.Words.{Tokens, token, sign, keyword}
 use Rattle.dart_syntax.specs.Operators.{named}
-use Rattle.dart_syntax.specs.Grammar.{Reading, Many, Args, is_var}
-use Rattle.dart_expr.specs.Input.{Parser, Outcome, and_then, many_from, same, same_keyword, sees, sees_keyword, after, after_keyword, expect, kind, span, next}
+use Rattle.dart_syntax.specs.Grammar.{Reading, Args, is_var}
+use Rattle.dart_expr.specs.Input.{Parser, Outcome, and_then, many_from, same, sees, sees_keyword, after, expect, span, next}
 use Rattle.dart_expr.specs.Model.{name, args}
 use Rattle.dart_parser.specs.Statements.{item}
-use Rattle.dart_expr.proofs.Facts.{sees_it, after_it, after_not, after_seen, expect_it, seen, expect_ok, sees_keyword_it, after_keyword_it, after_keyword_not, seen_keyword, after_keyword_seen, same_ok, split, via, some_not_none, none_not_some}
+use Rattle.dart_expr.proofs.Facts.{sees_it, after_it, after_not, after_seen, expect_it, seen, expect_ok, sees_keyword_it, after_keyword_it, seen_keyword, after_keyword_seen, same_ok, split, via, some_not_none, none_not_some}
 use Rattle.dart_expr.proofs.Good.{Good, grip}
 use Rattle.dart_expr.proofs.Many.{GoodStep, many_complete, many_via, many_shorter}
 use Rattle.dart_expr.proofs.Terms.{name_via, paren_args, paren_args_sound, paren_no_comma}
@@ -296,10 +296,10 @@ module _ (I : Reading Sta) (W : Reading Exp) (i : Parser Sta) (w : Parser Exp) (
   some_block_colon (gr.SomeBlock.some (gr.Block.block ds)) = refl
 
   -- what a constructor passes, and its body
-  abbrev pub tail : Tokens → Outcome (Option Exps × Option Stas)
+  abbrev pub tail : Tokens → Outcome (Option Passed × Option Stas)
   tail ts = and_then (passed i w ts) (λ xs us. and_then (some_block i w us) (λ y vs. Ok ((xs, y), vs)))
 
-  pub rest_complete : {ts rest : Tokens} {xs : Option Exps} {y : Option Stas} → Rest I W ts xs y rest → tail ts ≡ Ok ((xs, y), rest)
+  pub rest_complete : {ts rest : Tokens} {xs : Option Passed} {y : Option Stas} → Rest I W ts xs y rest → tail ts ≡ Ok ((xs, y), rest)
   unfolding passed
   rest_complete (gr.Rest.plain {b} {ts} {rest} d) = let other = some_block_colon d in rw (other, after_not s.Colon ts other, some_block_complete d)
   rest_complete (gr.Rest.passes {a} {b} {c} {xs} {y} {ts} {us} {rest} ds d) =
@@ -313,10 +313,10 @@ module _ (I : Reading Sta) (W : Reading Exp) (i : Parser Sta) (w : Parser Exp) (
         some_block_complete d,
       )
 
-  no_exps : {y : Option Exps × Tokens} {r : Rattle.dart_expr.specs.declared.refusal.Refusal.Refusal} → ◌≡◌ {A = Outcome (Option Exps)} (Err r) (Ok y) → ⊥
+  no_exps : {y : Option Passed × Tokens} {r : Rattle.dart_expr.specs.declared.refusal.Refusal.Refusal} → ◌≡◌ {A = Outcome (Option Passed)} (Err r) (Ok y) → ⊥
   no_exps e = cc
 
-  pub rest_sound : (ts us : Tokens) {xs : Option Exps} {y : Option Stas} {rest : Tokens} → passed i w ts ≡ Ok (xs, us) → some_block i w us ≡ Ok (y, rest) → Rest I W ts xs y rest
+  pub rest_sound : (ts us : Tokens) {xs : Option Passed} {y : Option Stas} {rest : Tokens} → passed i w ts ≡ Ok (xs, us) → some_block i w us ≡ Ok (y, rest) → Rest I W ts xs y rest
   unfolding passed
   rest_sound ts us {xs} {y} {rest} e f = split (sees s.Colon ts)
       (λ h. split (sees_keyword k.Super (next ts))
@@ -327,7 +327,7 @@ module _ (I : Reading Sta) (W : Reading Exp) (i : Parser Sta) (w : Parser Exp) (
       (λ h2. absurd (no_exps (rw (h, after_seen s.Colon ts h, h2) at e))))
       (λ h. same_ok (λ xs us. some_block i w us ≡ Ok (y, rest) → Rest I W ts xs y rest) (rw (h, after_not s.Colon ts h) at e) (λ g. gr.Rest.plain (some_block_sound ts g)) f)
 
-  pub rest_shorter : {ts rest : Tokens} {xs : Option Exps} {y : Option Stas} → Rest I W ts xs y rest → length rest < length ts
+  pub rest_shorter : {ts rest : Tokens} {xs : Option Passed} {y : Option Stas} → Rest I W ts xs y rest → length rest < length ts
   rest_shorter (gr.Rest.plain d) = some_block_shorter d
   rest_shorter (gr.Rest.passes ds d) = omega (arith, some_block_shorter d, args_less ds)
     where

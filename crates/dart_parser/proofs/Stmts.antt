@@ -1,34 +1,29 @@
 -- Statements, at each number of levels.
-use Rattle.std.proofs.Common.{◌≡◌, ◌≢◌, ℕ, zero, suc, ◌+◌, ◌-◌, ◌<◌, ◌≤◌, Bool, true, false, ◌&&◌, ◌==◌, cond, List, [], ◌∷◌, ◌++◌, length, Option, Some, None, Ok, Err, refl, ap, sym, inl, inr, ◌⊎◌, ◌∙◌, arith, map}
-use Rattle.std.proofs.lemmas.Bool.{eq-eqb, eqb-true, eqb-false}
+use Rattle.std.proofs.Common.{◌≡◌, ℕ, zero, suc, ◌<◌, Bool, true, false, ◌&&◌, ◌==◌, List, [], ◌∷◌, length, Option, Some, None, Ok, Err, refl, inl, inr, ◌⊎◌, arith}
+use Rattle.std.proofs.lemmas.Bool.{eqb-true}
 use Rattle.dart_syntax.specs.declared.token.Span.{Span}
-use Rattle.dart_syntax.specs.declared.token.Sign.{Sign}
 use Rattle.dart_syntax.specs.declared.token.Sign.TheVariants as s
 use Rattle.dart_syntax.specs.declared.token.Keyword.{Keyword}
 use Rattle.dart_syntax.specs.declared.token.Keyword.TheVariants as k
 use Rattle.dart_syntax.specs.declared.token.TokenKind.{TokenKind}
 use Rattle.dart_syntax.specs.declared.token.TokenKind.TheVariants as tk
-use Rattle.dart_syntax.specs.declared.tree.Stmt.{Stmt}
-use Rattle.dart_syntax.specs.View.{sta}
 use Rattle.dart_syntax.specs.Syntax as tree
 use Rattle.dart_syntax.specs.Syntax.{Exp, Sta}
 use Rattle.dart_syntax.specs.Words.{Tokens, token, sign, keyword}
 use Rattle.dart_syntax.specs.Operators.{named}
 use Rattle.dart_syntax.specs.Grammar as gr
 use Rattle.dart_syntax.specs.Grammar.{Reading, Many, none, more, Valued, Initial, NoElse, is_var, Locals, Statement, StmtWithin, NoStmt, ExprWithin}
-use Rattle.dart_expr.specs.Input.{Parser, Outcome, Reads, is_sign, and_then, many_from, same, same_keyword, sees, sees_keyword, after, after_keyword, expect, kind, span, next, is_end, is_end_kind}
+use Rattle.dart_expr.specs.Input.{Parser, Outcome, is_sign, and_then, many_from, same, sees, sees_keyword, after, expect, span, next, is_end, is_end_kind}
 use Rattle.dart_expr.specs.Model.{name, expr}
 use Rattle.dart_parser.specs.Statements as m
 use Rattle.dart_parser.specs.Statements.{item, ended, valued, initial, block, variable, constant, local, first_by, first, comma_item, comma_items, last, test, branches, repeated, do_repeated, counted, counted_by, broken, continued, returned, statement_by, statement, stmt}
-use Rattle.dart_expr.proofs.Facts.{sees_it, after_it, after_not, after_seen, expect_it, seen, expect_ok, sees_keyword_it, after_keyword_it, after_keyword_not, seen_keyword, after_keyword_seen, same_ok, split, via, which, some_not_none, none_not_some}
+use Rattle.dart_expr.proofs.Facts.{sees_it, after_it, after_not, after_seen, expect_it, seen, expect_ok, sees_keyword_it, after_keyword_it, after_keyword_not, seen_keyword, after_keyword_seen, same_ok, split, via, some_not_none, none_not_some}
 use Rattle.dart_expr.specs.Firsts.{kind_starts}
 use Rattle.dart_expr.proofs.Good.{Good, starts_other, grip, starts}
-use Rattle.dart_expr.proofs.Many.{GoodStep, many_complete, many_sound, many_via, many_after, many_shorter, many_grip}
+use Rattle.dart_expr.proofs.Many.{GoodStep, many_complete, many_via, many_after, many_shorter, many_grip}
 use Rattle.dart_expr.proofs.Terms.{name_via}
 use Rattle.dart_expr.proofs.Expressions.{expr_good}
 use Rattle.dart_expr.specs.declared.refusal.Refusal.{Refusal}
-use Rattle.dart_expr.specs.declared.refusal.Refusal.TheVariants.{NoMemory, Syntax, TooDeep}
-use Rattle.std.specs.Prelude.{IfOk, MatchResult, Result}
 
 -- what a statement doesn't begin with
 abbrev pub kind_opens : TokenKind → Bool

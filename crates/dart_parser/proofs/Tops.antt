@@ -1,12 +1,11 @@
 -- Top-level declarations and whole units.
-use Rattle.std.proofs.Common.{◌≡◌, ◌≢◌, ℕ, zero, suc, ◌+◌, ◌-◌, ◌<◌, ◌≤◌, Bool, true, false, List, [], ◌∷◌, ◌++◌, length, Option, Some, None, Ok, Err, refl, ap, sym, ◌∙◌, arith, map}
+use Rattle.std.proofs.Common.{◌≡◌, ◌≢◌, ℕ, ◌<◌, ◌≤◌, Bool, true, false, List, [], ◌∷◌, length, Option, Some, None, Ok, Err, refl, sym, ◌∙◌, arith, map}
 use Rattle.dart_syntax.specs.declared.token.Span.{Span}
 use Rattle.dart_syntax.specs.declared.token.Sign.TheVariants as s
 use Rattle.dart_syntax.specs.declared.token.Keyword.{Keyword}
 use Rattle.dart_syntax.specs.declared.token.Keyword.TheVariants as k
 use Rattle.dart_syntax.specs.declared.token.TokenKind.{TokenKind}
 use Rattle.dart_syntax.specs.declared.token.TokenKind.TheVariants as tk
-use Rattle.dart_syntax.specs.declared.tree.Name.{Name}
 use Rattle.dart_syntax.specs.Syntax as tree
 use Rattle.dart_syntax.specs.Syntax.{Exp, Sta, Body, Top}
 use Rattle.dart_syntax.specs.Words.{Tokens, token, sign, keyword}
@@ -14,13 +13,12 @@ use Rattle.dart_syntax.specs.Operators.{named}
 use Rattle.dart_syntax.specs.Grammar.{Reading, Many, none, more, is_var, StmtWithin, ExprWithin}
 use Rattle.dart_expr.specs.declared.refusal.Refusal.{Refusal}
 use Rattle.dart_expr.specs.declared.refusal.Refusal.TheVariants.{NoMemory, Syntax, TooDeep}
-use Rattle.std.specs.Prelude.{IfOk, MatchResult, Result}
 use Rattle.dart_syntax.specs.declared.tree.Top as declared_top
 use Rattle.dart_syntax.specs.View as view
-use Rattle.dart_expr.specs.Input.{Parser, Reads, Outcome, and_then, many_from, same, same_keyword, sees, sees_keyword, after, after_keyword, expect, kind, span, next, is_end, is_end_kind}
+use Rattle.dart_expr.specs.Input.{Parser, Outcome, and_then, many_from, sees, sees_keyword, after, expect, span, next, is_end}
 use Rattle.dart_expr.specs.Model.{name, expr}
 use Rattle.dart_parser.specs.Statements.{is_last, stmt}
-use Rattle.dart_expr.proofs.Facts.{sees_it, after_it, after_not, after_seen, expect_it, seen, expect_ok, sees_keyword_it, after_keyword_it, after_keyword_not, seen_keyword, after_keyword_seen, same_ok, split, via, some_not_none, none_not_some}
+use Rattle.dart_expr.proofs.Facts.{sees_it, after_it, after_not, after_seen, expect_it, seen, expect_ok, sees_keyword_it, after_keyword_it, seen_keyword, after_keyword_seen, same_ok, split, via, some_not_none, none_not_some}
 use Rattle.dart_expr.proofs.Good.{Good}
 use Rattle.dart_expr.proofs.Many.{GoodStep, many_complete, many_via, many_shorter}
 use Rattle.dart_expr.proofs.Terms.{name_via}

@@ -1,19 +1,16 @@
 -- Reading declarations: inner and whole read the statements and expressions of level 1.
-use Rattle.std.specs.Prelude.{◌≡◌, ℕ, ℤ, zero, suc, Bool, true, false, not, ◌||◌, ◌&&◌, if◌then◌else◌, List, [], ◌∷◌, ◌++◌, length, Option, Some, None, Ok, Err, codes}
+use Rattle.std.specs.Prelude.{ℕ, Bool, true, false, not, ◌&&◌, if◌then◌else◌, List, [], length, Option, Some, None, Ok}
 use Rattle.dart_syntax.specs.declared.token.Span.{Span}
 use Rattle.dart_syntax.specs.declared.token.TokenKind.{TokenKind}
 use Rattle.dart_syntax.specs.declared.token.TokenKind.TheVariants as tk
 use Rattle.dart_syntax.specs.declared.token.Sign.{Sign}
 use Rattle.dart_syntax.specs.declared.token.Sign.TheVariants as s
-use Rattle.dart_syntax.specs.declared.token.Keyword.{Keyword}
 use Rattle.dart_syntax.specs.declared.token.Keyword.TheVariants as k
 use Rattle.dart_syntax.specs.declared.tree.Name.{Name}
 use Rattle.dart_syntax.specs.declared.tree.Unary.TheVariants as u
 use Rattle.dart_syntax.specs.Syntax as tree
-use Rattle.dart_syntax.specs.Syntax.{Param, Exp, Sta, Exps, Stas, Body, Member, a_param}
-use Rattle.dart_syntax.specs.Words.{Tokens}
-use Rattle.dart_syntax.specs.Operators.{named}
-use Rattle.dart_expr.specs.Input.{kind, span, next, Parser, ◌>>=◌, ◌>>◌, ◌<$>◌, pure, refuse, here, take, sees, sees_keyword, eat, eat_keyword, expect, many_from}
+use Rattle.dart_syntax.specs.Syntax.{Param, Exp, Sta, Stas, Passed, Body, Member, a_param}
+use Rattle.dart_expr.specs.Input.{kind, next, Parser, ◌>>=◌, ◌>>◌, ◌<$>◌, pure, refuse, here, take, sees, eat, eat_keyword, expect, many_from}
 use Rattle.dart_expr.specs.Model.{name, args}
 use Rattle.dart_parser.specs.Statements.{item}
 use Rattle.dart_syntax.specs.declared.tree.Operator.{Operator}
@@ -143,14 +140,15 @@ module _ (inner : Parser Sta) (whole : Parser Exp) where
     tree.method n ps <$> some_body
 
   -- what a constructor passes to its superclass
-  unfoldable pub passed : Parser (Option Exps)
+  unfoldable pub passed : Parser (Option Passed)
   passed = do
     is_passed ← eat s.Colon
     if is_passed then (do
+      at ← here
       is_super ← eat_keyword k.Super
       if is_super then (do
         expect s.ParenOpen
-        (λ xs. Some (tree.exps xs)) <$> args whole s.ParenClose) else refuse) else pure None
+        (λ xs. Some (tree.passing at (tree.exps xs))) <$> args whole s.ParenClose) else refuse) else pure None
 
   unfoldable pub constructor : Name → Parser Member
   constructor n = do

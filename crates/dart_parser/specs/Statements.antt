@@ -1,6 +1,5 @@
 -- Reading statements, one level at a time: inner and whole read the statements and expressions one level deeper.
-use Rattle.std.specs.Prelude.{◌≡◌, ℕ, zero, suc, Bool, true, false, ◌&&◌, ◌||◌, ◌==◌, if◌then◌else◌, List, [], ◌∷◌, ◌++◌, length, Option, Some, None, Ok, Err}
-use Rattle.dart_syntax.specs.declared.token.Span.{Span}
+use Rattle.std.specs.Prelude.{ℕ, zero, suc, Bool, true, false, ◌&&◌, ◌||◌, ◌==◌, if◌then◌else◌, List, [], ◌∷◌, length, Option, Some, None, Ok, Err}
 use Rattle.dart_syntax.specs.declared.token.TokenKind.{TokenKind}
 use Rattle.dart_syntax.specs.declared.token.TokenKind.TheVariants as tk
 use Rattle.dart_syntax.specs.declared.token.Sign.{Sign}
@@ -10,7 +9,7 @@ use Rattle.dart_syntax.specs.declared.token.Keyword.TheVariants as k
 use Rattle.dart_syntax.specs.Syntax as tree
 use Rattle.dart_syntax.specs.Syntax.{Exp, Sta}
 use Rattle.dart_syntax.specs.Words.{Tokens}
-use Rattle.dart_expr.specs.Input.{kind, is_end, next, Parser, ◌>>=◌, ◌>>◌, ◌<$>◌, pure, refuse, deep, take, sees, sees_keyword, eat, eat_keyword, expect, many_from}
+use Rattle.dart_expr.specs.Input.{kind, is_end, Parser, ◌>>=◌, ◌>>◌, ◌<$>◌, pure, refuse, deep, take, sees, sees_keyword, eat, eat_keyword, expect, many_from}
 use Rattle.dart_expr.specs.Firsts.{begins}
 use Rattle.dart_expr.specs.Model.{name, expr}
 

@@ -1,6 +1,5 @@
 -- Reading classes and units.
-use Rattle.std.specs.Prelude.{◌≡◌, ℕ, Bool, true, false, not, ◌||◌, ◌&&◌, ◌==◌, if◌then◌else◌, List, [], ◌∷◌, ◌++◌, length, Option, Some, None, Ok, Err, codes}
-use Rattle.dart_syntax.specs.declared.token.Span.{Span}
+use Rattle.std.specs.Prelude.{ℕ, Bool, true, false, if◌then◌else◌, List, [], ◌∷◌, length, Option, Some, None, Ok, codes}
 use Rattle.dart_syntax.specs.declared.token.TokenKind.{TokenKind}
 use Rattle.dart_syntax.specs.declared.token.TokenKind.TheVariants as tk
 use Rattle.dart_syntax.specs.declared.token.Sign.TheVariants as s
@@ -8,7 +7,6 @@ use Rattle.dart_syntax.specs.declared.token.Keyword.TheVariants as k
 use Rattle.dart_syntax.specs.declared.tree.Name.{Name}
 use Rattle.dart_syntax.specs.Syntax as tree
 use Rattle.dart_syntax.specs.Syntax.{Exp, Sta, Body, Member, Top, ClassDecl}
-use Rattle.dart_syntax.specs.Words.{Tokens}
 use Rattle.dart_expr.specs.Input.{kind, next, Parser, ◌>>=◌, ◌>>◌, ◌<$>◌, pure, refuse, take, sees, eat, eat_keyword, expect, many_from, is_end}
 use Rattle.dart_expr.specs.Model.{name}
 use Rattle.dart_parser.specs.Statements.{is_last}

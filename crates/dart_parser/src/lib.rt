@@ -23,6 +23,7 @@ use crate::error::placed;
 use crate::top::whole_unit;
 pub use bodies::LEVELS;
 use dart_expr::cursor::Cursor;
+pub use dart_printer::print_tree;
 use dart_syntax::token::Token;
 use dart_syntax::tree::Tree;
 pub use error::ParseError;
@@ -40,6 +41,3 @@ pub fn parse(alloc: Global, list: &[Token]) -> Result<Tree, ParseError>
         Err(refusal) => Err(placed(list.len(), refusal)),
     }
 }
-
-#[cfg(test)]
-mod tests;

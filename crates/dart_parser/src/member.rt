@@ -17,8 +17,7 @@ use dart_expr::grammar::args;
 use dart_expr::names::name;
 use dart_syntax::same::same_text;
 use dart_syntax::token::{Keyword, Sign, TokenKind};
-use dart_syntax::tree::{Expr, Local, Member, Name};
-use sqlite_items::Items;
+use dart_syntax::tree::{Local, Member, Name, Passed};
 use std::alloc::Global;
 
 #[tactic(auto, unfolding(crate::specs::Members::method))]
@@ -30,17 +29,19 @@ fn method(alloc: Global, tokens: &mut Cursor<'_>, name: Name) -> Result<Member, 
 }
 
 #[tactic(auto, unfolding(crate::specs::Members::passed))]
-fn passed(alloc: Global, tokens: &mut Cursor<'_>) -> Result<Option<Items<Expr>>, Refusal>
-    ensures { Reads (option_map view.all_exps) (spec.passed (stmt LEVELS) (expr LEVELS) tokens.old) result tokens.new }
+fn passed(alloc: Global, tokens: &mut Cursor<'_>) -> Result<Option<Passed>, Refusal>
+    ensures { Reads (option_map view.passed) (spec.passed (stmt LEVELS) (expr LEVELS) tokens.old) result tokens.new }
 {
     if !tokens.eat(Sign::Colon) {
         return Ok(None);
     }
+    let span = tokens.span();
     if !tokens.eat_keyword(Keyword::Super) {
         return Err(tokens.refuse());
     }
     tokens.expect(Sign::ParenOpen)?;
-    Ok(Some(args(alloc, tokens, LEVELS, Sign::ParenClose)?))
+    let args = args(alloc, tokens, LEVELS, Sign::ParenClose)?;
+    Ok(Some(Passed { span, args }))
 }
 
 #[tactic(auto, unfolding(crate::specs::Members::constructor))]

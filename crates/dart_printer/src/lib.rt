@@ -3,8 +3,6 @@
 
 mod expr;
 mod stmt;
-#[cfg(test)]
-mod tests;
 mod unit;
 mod words;
 

@@ -1,15 +1,19 @@
 //! The text of declarations.
 
-ghost use Rattle.std.specs.Prelude.{◌≡◌, ◌++◌, OnOk, IfOk, [], map, option_map, flat_map, if◌then◌else◌, codes};
-ghost use Rattle.dart_syntax.specs.Derivation.{same_text};
+ghost use Rattle.std.specs.Prelude.{◌≡◌, ◌++◌, OnOk, IfOk, List, [], map, option_map, flat_map, if◌then◌else◌, codes};
+ghost use Rattle.dart_syntax.specs.declared.token.Token.{Token};
+ghost use Rattle.dart_syntax.specs.Derivation.{same_text, Derives};
 ghost use Rattle.dart_syntax.specs.View as view;
 ghost use Rattle.dart_syntax.specs.Text as text;
+ghost use Rattle.read_back.specs.ReadsBack.{ArePossible, ReadsBack};
 
 use crate::expr::{print_expr, print_exprs};
 use crate::stmt::{print_block, print_local};
 use crate::words::{put, put_operator};
 use dart_syntax::same::same_text;
-use dart_syntax::tree::{Body, ClassDecl, Expr, Function, Member, Name, Param, Stmt, Top, Tree};
+use dart_syntax::tree::{Body, ClassDecl, Function, Member, Name, Param, Passed, Stmt, Top, Tree};
+use ds_base::NoMemory;
+use read_back::canonical_text_reads_back;
 use sqlite_items::Items;
 use std::alloc::{AllocError, Global};
 
@@ -95,16 +99,16 @@ fn print_some_block(
 }
 
 /// What a constructor passes to its superclass.
-fn print_passed(alloc: Global, out: &mut Vec<u8>, x: &Option<Items<Expr>>) -> Result<(), AllocError>
-    ensures { OnOk result (out.new.items ≡ out.old.items ++ text.passed_text (option_map view.all_exps x.now)) }
+fn print_passed(alloc: Global, out: &mut Vec<u8>, x: &Option<Passed>) -> Result<(), AllocError>
+    ensures { OnOk result (out.new.items ≡ out.old.items ++ text.passed_text (option_map view.passed x.now)) }
 {
     match x {
         None => Ok(()),
-        Some(args) => {
+        Some(passed) => {
             put(out, b":")?;
             put(out, b"super")?;
             put(out, b"(")?;
-            print_exprs(alloc, out, args.as_slice())?;
+            print_exprs(alloc, out, passed.args.as_slice())?;
             put(out, b")")
         }
     }
@@ -257,9 +261,12 @@ fn print_tops(alloc: Global, out: &mut Vec<u8>, all: &[Top]) -> Result<(), Alloc
 }
 
 /// The canonical text of the tree.
-pub fn print_tree(alloc: Global, tree: &Tree) -> Result<Vec<u8>, AllocError>
-    ensures { IfOk result (λ out. out.items ≡ text.text (view.unit tree.now)) }
+pub fn print_tree(alloc: Global, tree: &Tree) -> Result<Vec<u8>, NoMemory>
+    ensures text { IfOk result (λ out. out.items ≡ text.text (view.unit tree.now)) }
+    // Where some list of tokens derives the tree, the text has a token list, and that list derives the tree again, spans aside.
+    ensures reads_back { IfOk result (λ out. (list : List Token) → ArePossible list → Derives list (view.unit tree.now) → ReadsBack out.items (view.unit tree.now)) }
 {
+    canonical_text_reads_back();
     let mut out = Vec::new(alloc);
     print_tops(alloc, &mut out, tree.tops.as_slice())?;
     let _space = out.pop();

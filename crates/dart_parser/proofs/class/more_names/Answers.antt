@@ -1,4 +1,4 @@
-use Rattle.std.proofs.Common.{map, rules, arith}
+use Rattle.std.proofs.Common.{rules, arith}
 use Rattle.std.proofs.lemmas.Grind.{common_steps}
 use Rattle.dart_expr.specs.Input.{many_from}
 use Rattle.dart_parser.specs.Tops.{comma_name, more_names}

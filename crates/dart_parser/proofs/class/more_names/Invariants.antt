@@ -1,4 +1,4 @@
-use Rattle.std.proofs.Common.{map, ◌≡◌, ◌-◌}
+use Rattle.std.proofs.Common.{◌≡◌, ◌-◌}
 use Rattle.dart_expr.specs.Input.{many_from}
 use Rattle.dart_parser.specs.Tops.{comma_name, more_names}
 use Rattle.dart_parser.proofs.class.more_names.Given as goal

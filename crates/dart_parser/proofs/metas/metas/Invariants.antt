@@ -1,4 +1,4 @@
-use Rattle.std.proofs.Common.{map, ◌≡◌, ◌-◌}
+use Rattle.std.proofs.Common.{◌≡◌, ◌-◌}
 use Rattle.dart_expr.specs.Input.{many_from}
 use Rattle.dart_parser.specs.Tops.{meta, metas}
 use Rattle.dart_parser.proofs.metas.metas.Given as goal

@@ -1,0 +1,16 @@
+pub mod Lists
+pub mod Cuts
+pub mod Marks
+pub mod Keywords
+pub mod SignTexts
+pub mod Numbers
+pub mod StringTexts
+pub mod Back
+pub mod Terms
+pub mod Expressions
+pub mod Statements
+pub mod Parts
+pub mod Members
+pub mod Tops
+pub mod Whole
+pub mod Possible
