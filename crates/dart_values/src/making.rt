@@ -1,6 +1,7 @@
 // New values.
 ghost use Rattle.std.specs.Prelude.{◌≡◌, ◌+◌, length, [], ◌∷◌, ◌++◌, All, IfOk, OnOk, OnErr, IsTrue};
 ghost use Rattle.program.specs.BuiltIn.{is_open};
+ghost use Rattle.dart_values.specs.declared.heap.Thing.TheVariants as variant;
 ghost use Rattle.dart_values.specs.Values.{text, at, object, list, invocation};
 ghost use Rattle.dart_values.specs.Store.{IsOf, IsThing, Keeps, value_of, values_of, thing_in, heap_of};
 
@@ -9,6 +10,37 @@ use crate::value::Value;
 use ds_base::NoMemory;
 use program::{ClassId, SelectorKind, Text};
 use sqlite_items::Items;
+
+/// Adds the name of a member, the list of the arguments and the Invocation of both, or nothing. The answer is the Invocation's address.
+fn push_invocation(
+    texts: &mut Vec<Text>,
+    things: &mut Vec<Thing>,
+    name: Text,
+    arguments: Vec<Value>,
+    kind: SelectorKind,
+) -> Result<usize, NoMemory>
+    ensures address { IfOk result (λ a. a ≡ length things.old.items + 1) }
+    ensures texts { OnOk result (texts.new.items ≡ texts.old.items ++ name ∷ []) }
+    ensures things { OnOk result (things.new.items
+        ≡ (things.old.items ++ variant.List arguments.items ∷ []) ++ variant.Invocation (length texts.old.items) (length things.old.items) kind ∷ []) }
+    ensures no_texts { OnErr result (texts.new.items ≡ texts.old.items) }
+    ensures no_things { OnErr result (things.new.items ≡ things.old.items) }
+{
+    texts.reserve(1)?;
+    things.reserve(2)?;
+    let index = texts.len();
+    let address = things.len();
+    texts.push(name).unwrap();
+    let list = Thing::List(Items::from_vec(arguments));
+    things.push(list).unwrap();
+    let invocation = Thing::Invocation {
+        name: index,
+        arguments: address,
+        kind,
+    };
+    things.push(invocation).unwrap();
+    Ok(address + 1)
+}
 
 impl Heap {
     /// A string.
@@ -79,21 +111,7 @@ impl Heap {
         ensures keeps { Keeps self.old self.new }
         ensures err { OnErr result (self.new ≡ self.old) }
     {
-        self.texts.reserve(1)?;
-        self.things.reserve(2)?;
-        let index = self.texts.len();
-        let address = self.things.len();
-        self.texts.push(name).unwrap();
-        self.things
-            .push(Thing::List(Items::from_vec(arguments)))
-            .unwrap();
-        self.things
-            .push(Thing::Invocation {
-                name: index,
-                arguments: address,
-                kind,
-            })
-            .unwrap();
-        Ok(Value::Ref(address + 1))
+        let address = push_invocation(&mut self.texts, &mut self.things, name, arguments, kind)?;
+        Ok(Value::Ref(address))
     }
 }

@@ -1,5 +1,5 @@
 -- The program of the built-in classes and members is sound.
-use Rattle.std.proofs.Common.{◌≡◌, ℕ, zero, suc, ◌^◌, ◌<◌, Bool, true, false, ◌&&◌, nat_eq, nat_lt, List, [], length, None, Some, IsTrue, slice_get, refl, sym, ap, subst, arith, codes, lit<, lit≤}
+use Rattle.std.proofs.Common.{◌≡◌, ℕ, zero, suc, ◌^◌, ◌<◌, ◌≤◌, Bool, true, false, ◌&&◌, nat_eq, nat_lt, List, [], length, None, Some, IsTrue, slice_get, refl, sym, ap, subst, arith, codes, lit<, lit≤}
 use Rattle.std.proofs.lemmas.Bool.Decides.{nat_tests}
 use Rattle.std.proofs.lemmas.Slice.Eq.{bytes_eq-Decides}
 use Rattle.std.specs.List.{list_all}
@@ -95,11 +95,11 @@ one_test false required defaults = true
 abbrev is_row : ℕ → Method → Bool
 is_row m k = is_native m k.body && (nat_lt m 49 && (nat_lt k.owner.0 7 && (takes_test k.role k.required (length k.defaults) && one_test (bytes_eq k.name (codes "noSuchMethod")) k.required (length k.defaults))))
 
-native_code : (m : ℕ) (k : Method) (b : MethodBody) → IsTrue (is_native m b) → m < 49 → SoundCode p m k b
-native_code m k (does.Native n) h lt = (let same : n.0 ≡ m = grind (arith, nat_tests) in same, lt)
-native_code m k (does.ReadField f) h lt = absurd (cc)
-native_code m k (does.WriteField f) h lt = absurd (cc)
-native_code m k (does.Code b) h lt = absurd (cc)
+native_code : (q : Parts) (m : ℕ) (k : Method) (b : MethodBody) → IsTrue (is_native m b) → m < 49 → SoundCode q m k b
+native_code q m k (does.Native n) h lt = (let same : n.0 ≡ m = grind (arith, nat_tests) in same, lt)
+native_code q m k (does.ReadField f) h lt = absurd (cc)
+native_code q m k (does.WriteField f) h lt = absurd (cc)
+native_code q m k (does.Code b) h lt = absurd (cc)
 
 takes : (role : SelectorKind) (required defaults : ℕ) → IsTrue (takes_test role required defaults) → TakesByRole role required defaults
 takes Call r d h = tt
@@ -113,8 +113,8 @@ one name required defaults h e =
     let is : required ≡ 1 = grind (arith, nat_tests) in
     (omega arith, omega arith)
 
-row : (m : ℕ) (k : Method) → IsTrue (is_row m k) → IsMethod p m (Some k)
-row m k h =
+row : (q : Parts) → 7 ≤ length q.classes → (m : ℕ) (k : Method) → IsTrue (is_row m k) → IsMethod q m (Some k)
+row q some m k h =
     let a = and_both (is_native m k.body) _ h in
     let b = and_both (nat_lt m 49) _ a.1 in
     let c = and_both (nat_lt k.owner.0 7) _ b.1 in
@@ -122,15 +122,16 @@ row m k h =
     let low : m < 49 = (let t = b.0 in grind (arith, nat_tests)) in
     let owner : k.owner.0 < 7 = (let t = c.0 in grind (arith, nat_tests)) in
     record {
-      owner = owner;
+      owner = omega arith;
       of_user = λ le. absurd (omega arith);
       takes = takes k.role k.required (length k.defaults) d.0;
       no_such_method = λ call e. one k.name k.required (length k.defaults) d.1 e;
-      code = native_code m k k.body a.0 low;
+      code = native_code q m k k.body a.0 low;
     }
 
-methods : (m : ℕ) → IsMethod p m (slice_get built_in_members m)
-methods = tested is_row (IsMethod p) (λ i. tt) row built_in_members refl
+-- The built-in members are sound in each program that has the built-in classes.
+pub built_in_methods : (q : Parts) → 7 ≤ length q.classes → (m : ℕ) → IsMethod q m (slice_get built_in_members m)
+built_in_methods q some = tested is_row (IsMethod q) (λ i. tt) (row q some) built_in_members refl
 
 same_number : (a b : ℕ) → IsTrue (nat_eq a b) → a ≡ b
 same_number a b h = grind (arith, nat_tests)
@@ -152,7 +153,7 @@ bytes_same xs ys h = (bytes_eq-Decides xs ys).0 h
 pub same_bytes : (xs ys : List ℕ) → xs ≡ ys → IsTrue (bytes_eq xs ys)
 same_bytes xs ys e = (bytes_eq-Decides xs ys).1 e
 
-members_swap : (a b : Method) → IsTrue (same_member a b) → IsTrue (same_member b a)
+pub members_swap : (a b : Method) → IsTrue (same_member a b) → IsTrue (same_member b a)
 members_swap a b h =
     let x = and_both (nat_eq a.owner.0 b.owner.0) _ h in
     let y = and_both (same_kind a.role b.role) _ x.1 in
@@ -161,8 +162,8 @@ members_swap a b h =
     let names : IsTrue (bytes_eq b.name a.name) = same_bytes b.name a.name (sym (bytes_same a.name b.name y.1)) in
     both_and _ _ owners (both_and _ _ kinds names)
 
-methods_differ : AreDistinct same_member built_in_members
-methods_differ = are_distinct same_member members_swap built_in_members refl
+pub built_in_differ : AreDistinct same_member built_in_members
+built_in_differ = are_distinct same_member members_swap built_in_members refl
 
 -- functions, selectors and sites
 
@@ -183,8 +184,8 @@ built_in_sound = record {
   classes = each_at (IsClass p) (λ c. tt) built_in_classes classes;
   acyclic = acyclic;
   built_in_members = refl;
-  methods = methods;
-  methods_differ = methods_differ;
+  methods = built_in_methods p (lit≤ tt);
+  methods_differ = built_in_differ;
   functions = λ f. tt;
   functions_differ = λ i j a b e f s. absurd (cc);
   selectors = each_at (λ s. IsSelector) (λ s. tt) built_in_parts.selectors selectors;
