@@ -1,0 +1,15 @@
+pub mod Place
+pub mod Program
+pub mod Operators
+pub mod Classes
+pub mod Run
+pub mod Calls
+pub mod Meaning
+pub mod Entry
+pub mod Numbered
+pub mod Numbering
+pub mod Laws
+pub mod Uses
+pub mod Means
+pub mod Sites
+pub mod Agree

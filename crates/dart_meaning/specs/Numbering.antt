@@ -1,0 +1,254 @@
+-- The numbered form of the bodies of a tree: slots for variables, numbers for static targets, and sites by number.
+use Rattle.std.specs.Prelude.{ℕ, suc, ◌-◌, pos, neg_ℤ, Bool, true, false, not, if◌then◌else◌, ◌&&◌, List, [], ◌∷◌, ◌++◌, length, map, reverse, flat_map, find, filter_map, position, Option, Some, None, is_some, unwrap_or, codes}
+use Rattle.std.specs.Option.{option_map}
+use Rattle.std.specs.Str.{bytes_eq}
+use Rattle.dart_syntax.specs.declared.token.Span.{Span}
+use Rattle.dart_syntax.specs.declared.tree.Name.{Name}
+use Rattle.dart_syntax.specs.declared.tree.Unary.{Unary}
+use Rattle.dart_syntax.specs.declared.tree.Unary.TheVariants as u
+use Rattle.dart_syntax.specs.Syntax as t
+use Rattle.dart_syntax.specs.Syntax.{Tree, Param, ClassDecl, Member, Function}
+use Rattle.program.specs.declared.literal.Literal.{Literal}
+use Rattle.program.specs.declared.literal.Literal.TheVariants as l
+use Rattle.program.specs.declared.body.Binary.{Binary}
+use Rattle.program.specs.declared.body.Compound.{Compound}
+use Rattle.program.specs.declared.numbered.Method.{Method}
+use Rattle.program.specs.declared.numbered.SelectorKind.{SelectorKind}
+use Rattle.program.specs.declared.numbered.SelectorKind.TheVariants.{Call, Get, Set}
+use Rattle.program.specs.Bodies as c
+use Rattle.program.specs.BuiltIn.{built_in_members}
+use Rattle.program.specs.Lookup.{same_kind}
+use Rattle.program.specs.Sound.{is_lazy}
+use Rattle.dart_values.specs.Values.{Text}
+use Rattle.dart_values.specs.Numbers.{wrap}
+use Rattle.dart_meaning.specs.Place.{Place, reading, writing}
+use Rattle.dart_meaning.specs.Operators.{operator_of, compound, step_operator, operator_name}
+use Rattle.dart_meaning.specs.Classes.{classes, functions, own, chain_above, class_number, class_name, class_declares, is_constructed, variable_place, field_place}
+use Rattle.dart_meaning.specs.Meaning.{Scope, of_body, of_this, of_unit, scope_by}
+
+-- ---- the numbers of members
+
+-- what one member is: the class that declares it, its kind and its name
+pub record Key : Type 0 where
+  pub class : Text
+  pub kind : SelectorKind
+  pub name : Text
+
+abbrev pub key : Text → SelectorKind → Text → Key
+key class kind name = record { class = class; kind = kind; name = name }
+
+abbrev pub same_key : Key → Key → Bool
+same_key x y = bytes_eq x.class y.class && (same_kind x.kind y.kind && bytes_eq x.name y.name)
+
+-- A field gives its getter and then, unless it is final, its setter. An abstract declaration gives nothing.
+abbrev pub member_keys : Text → Member → List Key
+member_keys class (t.field f) = key class Get f.name.text ∷ (if f.is_final then [] else key class Set f.name.text ∷ [])
+member_keys class (t.method n params body) = if is_some body then key class Call n.text ∷ [] else []
+member_keys class (t.getter n body) = if is_some body then key class Get n.text ∷ [] else []
+member_keys class (t.setter n param body) = if is_some body then key class Set n.text ∷ [] else []
+member_keys class (t.operator op span params body) = if is_some body then key class Call (operator_name op params) ∷ [] else []
+member_keys class (t.constructor n params passed body) = []
+
+abbrev pub built_in_key : Tree → Method → Key
+built_in_key tree m = key (class_name tree m.owner.0) m.role m.name
+
+-- the built-in members, and then those of the user's in the order of the text
+abbrev pub all_keys : Tree → List Key
+all_keys tree = map (built_in_key tree) built_in_members ++ flat_map (λ (k : ClassDecl). flat_map (member_keys k.name.text) k.members) (classes tree)
+
+abbrev pub member_number : Tree → Text → SelectorKind → Text → ℕ
+member_number tree class kind name = unwrap_or (position (same_key (key class kind name)) (all_keys tree)) 0
+
+abbrev pub function_number : Tree → Text → Option ℕ
+function_number tree name = position (λ (f : Function). bytes_eq f.name.text name) (functions tree)
+
+-- how many names stand before one
+abbrev pub index_of : Text → List Text → Option ℕ
+index_of name [] = None
+index_of name (x ∷ more) = if bytes_eq x name then Some 0 else option_map suc (index_of name more)
+
+-- a minus directly before a number, as the number
+abbrev pub negated : Unary → t.Exp → Option Literal
+negated u.Minus (t.int n span) = Some (l.Int (wrap (neg_ℤ n)))
+negated u.Minus (t.min_int span) = Some (l.Int (neg_ℤ (pos 9223372036854775808)))
+negated _ _ = None
+
+module _ (tree : Tree) (site_of : Place → ℕ) (here : Option Text) where
+  abbrev pub site : Span → ℕ
+  site span = site_of (reading span.start)
+
+  abbrev pub writing_site : Span → ℕ
+  writing_site span = site_of (writing span.start)
+
+  -- where a read is wanted too
+  abbrev pub if_reads : Bool → ℕ → Option ℕ
+  if_reads true s = Some s
+  if_reads false s = None
+
+  abbrev pub operating : Binary → Span → Compound
+  operating op span = record { operator = op; site = record { 0 = site span } }
+
+  -- the first class above with such a member
+  abbrev pub super_class : SelectorKind → Text → Text
+  super_class kind name = unwrap_or (find (λ class. is_some (own tree class kind name)) (unwrap_or (option_map (chain_above tree) here) [])) []
+
+  abbrev pub super_number : SelectorKind → Text → ℕ
+  super_number kind name = member_number tree (super_class kind name) kind name
+
+  -- `names` are the variables that are open, the newest first.
+  abbrev pub slot : List Text → Text → ℕ
+  slot names name = length names - suc (unwrap_or (index_of name names) 0)
+
+  abbrev pub scope : List Text → Text → Scope
+  scope names name = scope_by (is_some (index_of name names)) (class_declares tree here name) (is_some (variable_place tree name))
+
+  abbrev pub variable : Text → ℕ
+  variable name = unwrap_or (variable_place tree name) 0
+
+  abbrev pub bare : List Text → Scope → Name → c.Exp
+  bare names of_body x = c.local (slot names x.text)
+  bare names of_unit x = c.global (variable x.text)
+  bare names of_this x = c.send (site x.span) c.this c.no_more
+
+  abbrev pub bare_spot : List Text → Bool → Scope → Name → c.Spot
+  bare_spot names reads of_body x = c.local_spot (slot names x.text)
+  bare_spot names reads of_unit x = c.global_spot (variable x.text)
+  bare_spot names reads of_this x = c.member_spot c.this (if_reads reads (site x.span)) (writing_site x.span)
+
+  abbrev pub prefixed : Unary → Span → c.Exp → c.Exp
+  prefixed u.Minus span e = c.send (site span) e c.no_more
+  prefixed u.Complement span e = c.send (site span) e c.no_more
+  prefixed u.Not span e = c.deny e
+
+  abbrev pub unary : Option Literal → c.Exp → c.Exp
+  unary None e = e
+  unary (Some k) e = c.constant k
+
+  abbrev pub call_unit : Name → c.Exps → Option ℕ → c.Exp
+  call_unit x args (Some f) = c.function f args
+  call_unit x args None =
+      if is_constructed tree x.text then c.make (class_number tree x.text) args
+      else (if bytes_eq x.text (codes "print") then c.print args else c.send (site x.span) c.this args)
+
+  abbrev pub call : Name → c.Exps → c.Exp
+  call x args = if class_declares tree here x.text then c.send (site x.span) c.this args else call_unit x args (function_number tree x.text)
+
+  -- No tree has another target.
+  abbrev pub no_spot : c.Spot
+  no_spot = c.local_spot 0
+
+  abbrev mutual
+    pub exp : List Text → t.Exp → c.Exp
+    exp names (t.null span) = c.constant l.Null
+    exp names (t.bool x span) = c.constant (l.Bool x)
+    exp names (t.int n span) = c.constant (l.Int n)
+    exp names (t.min_int span) = c.constant l.Null
+    exp names (t.this span) = c.this
+    exp names (t.str units span) = c.constant (l.Str units)
+    exp names (t.joined units span more) = c.str units (pieces names span more)
+    exp names (t.bare x) = bare names (scope names x.text) x
+    exp names (t.call x args) = call x (exps names args)
+    exp names (t.super_get span x) = c.above (super_number Get x.text) c.no_more
+    exp names (t.super_call span x args) = c.above (super_number Call x.text) (exps names args)
+    exp names (t.paren e) = exp names e
+    exp names (t.list span items) = c.list_of (exps names items)
+    exp names (t.postfix e more) = selected names (exp names e) more
+    exp names (t.step is_before op span to) = c.step is_before (operating (step_operator op) span) (spot names true to)
+    exp names (t.unary op span e) = unary (negated op e) (prefixed op span (exp names e))
+    exp names (t.chain e more) = c.chain (exp names e) (links names more)
+    exp names (t.is e denied span x) = c.is (exp names e) denied (class_number tree x.text)
+    exp names (t.choice x y z) = c.choice (exp names x) (exp names y) (exp names z)
+    exp names (t.assign to op span e) = c.assign (spot names (is_some (compound op)) to) (option_map (λ o. operating o span) (compound op)) (exp names e)
+    exp names (t.throw span e) = c.throw (exp names e)
+
+    pub exps : List Text → t.Exps → c.Exps
+    exps names t.no_more = c.no_more
+    exps names (t.also e more) = c.also (exp names e) (exps names more)
+
+    pub pieces : List Text → Span → t.Pieces → c.Pieces
+    pieces names span t.no_piece = c.no_piece
+    pieces names span (t.piece e after next more) = c.piece (site span) (exp names e) after (pieces names next more)
+
+    pub links : List Text → t.Links → c.Links
+    links names t.no_link = c.no_link
+    links names (t.link op span e more) = c.link (operator_of op) (if_reads (not (is_lazy (operator_of op))) (site span)) (exp names e) (links names more)
+
+    pub selected : List Text → c.Exp → t.Selectors → c.Exp
+    selected names e t.no_selector = e
+    selected names e (t.select s more) = selected names (select names e s) more
+
+    pub select : List Text → c.Exp → t.Selector → c.Exp
+    select names e (t.get x) = c.send (site x.span) e c.no_more
+    select names e (t.send x args) = c.send (site x.span) e (exps names args)
+    select names e (t.index span i) = c.send (site span) e (c.also (exp names i) c.no_more)
+
+    pub spot : List Text → Bool → t.Exp → c.Spot
+    spot names reads (t.bare x) = bare_spot names reads (scope names x.text) x
+    spot names reads (t.super_get span x) = c.above_spot (if_reads reads (super_number Get x.text)) (super_number Set x.text)
+    spot names reads (t.postfix e more) = selected_spot names reads (exp names e) more
+    spot names reads _ = no_spot
+
+    pub selected_spot : List Text → Bool → c.Exp → t.Selectors → c.Spot
+    selected_spot names reads e t.no_selector = no_spot
+    selected_spot names reads e (t.select s t.no_selector) = select_spot names reads e s
+    selected_spot names reads e (t.select s (t.select x more)) = selected_spot names reads (select names e s) (t.select x more)
+
+    pub select_spot : List Text → Bool → c.Exp → t.Selector → c.Spot
+    select_spot names reads e (t.get x) = c.member_spot e (if_reads reads (site x.span)) (writing_site x.span)
+    select_spot names reads e (t.send x args) = no_spot
+    select_spot names reads e (t.index span i) = c.element_spot e (exp names i) (if_reads reads (site span)) (writing_site span)
+
+  abbrev pub exp_or : List Text → Literal → Option t.Exp → c.Exp
+  exp_or names other None = c.constant other
+  exp_or names other (Some e) = exp names e
+
+  abbrev pub first : List Text → t.First → c.First
+  first names t.nothing = c.no_first
+  first names (t.local_first x) = c.first_declares (exp_or names l.Null x.value)
+  first names (t.run_first e) = c.first_runs (exp names e)
+
+  -- the names that are open behind the first part of a `for`, and behind a statement
+  abbrev pub after_first : List Text → t.First → List Text
+  after_first names (t.local_first x) = x.name.text ∷ names
+  after_first names _ = names
+
+  abbrev pub after : List Text → t.Sta → List Text
+  after names (t.local x) = x.name.text ∷ names
+  after names _ = names
+
+  abbrev mutual
+    pub sta : List Text → t.Sta → c.Sta
+    sta names (t.block all) = c.block (stas names all)
+    sta names (t.local x) = c.declares (exp_or names l.Null x.value)
+    sta names (t.run e) = c.run (exp names e)
+    sta names t.empty = c.empty
+    sta names (t.when e x) = c.when (exp names e) (sta names x)
+    sta names (t.when_else e x y) = c.when_else (exp names e) (sta names x) (sta names y)
+    sta names (t.while e x) = c.while (exp names e) (sta names x)
+    sta names (t.do_while x e) = c.do_while (sta names x) (exp names e)
+    sta names (t.for start e last x) =
+        c.for (first names start) (exp_or (after_first names start) (l.Bool true) e) (exps (after_first names start) last) (sta (after_first names start) x)
+    sta names (t.break span) = c.break
+    sta names (t.continue span) = c.continue
+    sta names (t.return span e) = c.return (exp_or names l.Null e)
+
+    pub stas : List Text → t.Stas → c.Stas
+    stas names t.done = c.end_of
+    stas names (t.next x more) = c.next (sta names x) (stas (after names x) more)
+
+-- ---- bodies
+
+-- the names of parameters, of which the first is the oldest
+abbrev pub param_names : List Param → List Text
+param_names params = reverse (map (λ (p : Param). p.name.text) params)
+
+-- without those that are `this.x`
+abbrev pub plain : Param → Option Text
+plain p = if p.is_field then None else Some p.name.text
+
+abbrev pub body_names : List Param → List Text
+body_names params = reverse (filter_map plain params)
+
+-- the fields that a constructor's parameters set
+abbrev pub sets : Tree → Text → List Param → List (Option ℕ)
+sets tree class params = map (λ (p : Param). if p.is_field then Some (field_place tree class p.name.text) else None) params

@@ -1,0 +1,7 @@
+//! What programs do.
+#![tactic(auto)]
+
+pub mod laws;
+mod seen;
+
+pub use seen::Seen;

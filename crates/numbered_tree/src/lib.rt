@@ -1,0 +1,2 @@
+//! The numbered form of a tree.
+#![tactic(auto)]

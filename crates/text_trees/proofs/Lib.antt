@@ -1,0 +1,12 @@
+pub mod Weights
+pub mod Expressions
+pub mod Levels
+pub mod Statements
+pub mod Names
+pub mod Parts
+pub mod Members
+pub mod Starts
+pub mod Hits
+pub mod SiteNames
+pub mod Whole
+pub mod Sizes

@@ -1,0 +1,341 @@
+-- The texts of the worked programs.
+use Rattle.std.specs.Prelude.{[], ◌∷◌, ◌++◌, codes}
+use Rattle.dart_values.specs.Values.{Text}
+use Rattle.worked_programs.specs.Reading.{source}
+
+-- the bytes of U+1F600
+abbrev pub smile : Text
+smile = 240 ∷ 159 ∷ 152 ∷ 128 ∷ []
+
+abbrev pub first_run : Text
+first_run = source (
+    codes "class A { m() => 7; }" ∷
+    codes "main() { print(A().m()); }" ∷ [])
+
+abbrev pub integer_edges : Text
+integer_edges = source (
+    codes "main() {" ∷
+    codes "  print(-9223372036854775808 ~/ -1);" ∷
+    codes "  print(-9223372036854775808 - 1);" ∷
+    codes "  print(1 << 64);" ∷
+    codes "  print(-1 >> 64);" ∷
+    codes "  print(-1 >>> 60);" ∷
+    codes "  print(-7 % -3);" ∷
+    codes "  print(7 ~/ -2);" ∷
+    codes "  print(1 ~/ 0);" ∷
+    codes "}" ∷ [])
+
+abbrev pub surrogates : Text
+surrogates = source (
+    (codes "main() { var s = '" ++ smile ++ codes "'; print(s.length); print(s[0]); print(s[0] + s[1]); }") ∷ [])
+
+abbrev pub arithmetic : Text
+arithmetic = source (
+    codes "main() {" ∷
+    codes "  print(1 + 2 * 3 - 4 ~/ 2 % 3);" ∷
+    codes "  print(6 & 3 | 8 ^ 1);" ∷
+    codes "  print(1 << 3 >> 1 >>> 1);" ∷
+    codes "  print(~5);" ∷
+    codes "  var a = 3;" ∷
+    codes "  print(-a);" ∷
+    codes "  print(-(3));" ∷
+    codes "  print(-3);" ∷
+    codes "}" ∷ [])
+
+abbrev pub comparisons : Text
+comparisons = source (
+    codes "main() {" ∷
+    codes "  print(1 < 2);" ∷
+    codes "  print(2 <= 1);" ∷
+    codes "  print(3 > 2);" ∷
+    codes "  print(2 >= 3);" ∷
+    codes "  var s = 'a';" ∷
+    codes "  print(s == 'a');" ∷
+    codes "  print(s != 'a');" ∷
+    codes "  print(1 == 'a');" ∷
+    codes "  print(null == null);" ∷
+    codes "  print(1 != null);" ∷
+    codes "}" ∷ [])
+
+abbrev pub interpolations : Text
+interpolations = source (
+    codes "main() {" ∷
+    codes "  var a = 1;" ∷
+    codes "  print('$a and ${a + 1}${'in $a'}');" ∷
+    codes "  print('x\\ny');" ∷
+    codes "}" ∷ [])
+
+abbrev pub lists : Text
+lists = source (
+    codes "main() {" ∷
+    codes "  var l = [1, 'a', null, [true]];" ∷
+    codes "  print(l);" ∷
+    codes "  l.add(l.removeLast().length);" ∷
+    codes "  l[0] = l[1];" ∷
+    codes "  print(l.isEmpty);" ∷
+    codes "  print(l);" ∷
+    codes "}" ∷ [])
+
+abbrev pub tests_of_classes : Text
+tests_of_classes = source (
+    codes "class A {}" ∷
+    codes "class B extends A {}" ∷
+    codes "class C implements B {}" ∷
+    codes "main() {" ∷
+    codes "  print(B() is A);" ∷
+    codes "  print(A() is B);" ∷
+    codes "  print(C() is A);" ∷
+    codes "  print(C() is! B);" ∷
+    codes "  print(null is Null);" ∷
+    codes "  print(null is Object);" ∷
+    codes "  print(1 is Object);" ∷
+    codes "  print('a' is! String);" ∷
+    codes "}" ∷ [])
+
+abbrev pub no_such_method : Text
+no_such_method = source (
+    codes "class A {" ∷
+    codes "  noSuchMethod(i) { print('${i.memberName} ${i.positionalArguments}'); return 5; }" ∷
+    codes "}" ∷
+    codes "main() { var a = A(); print(a.foo(1, 2)); a.x = 3; print(a.x); }" ∷ [])
+
+abbrev pub wrong_argument_count : Text
+wrong_argument_count = source (
+    codes "class B { m() => 1; }" ∷
+    codes "main() { print(B().m(2)); }" ∷ [])
+
+abbrev pub null_receiver : Text
+null_receiver = source (
+    codes "class A {}" ∷
+    codes "main() { print(null == A()); print(null.foo()); }" ∷ [])
+
+abbrev pub compound_assignment : Text
+compound_assignment = source (
+    codes "f() { print('f'); return 0; }" ∷
+    codes "main() { var a = [1]; a[f()] += 1; print(a); }" ∷ [])
+
+abbrev pub kinds_of_calls : Text
+kinds_of_calls = source (
+    codes "class A {" ∷
+    codes "  noSuchMethod(i) { print(i.memberName); print([i.isMethod, i.isGetter, i.isSetter]); }" ∷
+    codes "}" ∷
+    codes "main() {" ∷
+    codes "  var a = A();" ∷
+    codes "  a.m(1);" ∷
+    codes "  a.g;" ∷
+    codes "  print(a.s = 9);" ∷
+    codes "  a + 1;" ∷
+    codes "  -a;" ∷
+    codes "  a[2] = 3;" ∷
+    codes "}" ∷ [])
+
+abbrev pub members : Text
+members = source (
+    codes "class P {" ∷
+    codes "  var x = 1;" ∷
+    codes "  final y;" ∷
+    codes "  P(this.y);" ∷
+    codes "  get sum => x + y;" ∷
+    codes "  set both(v) { x = v; }" ∷
+    codes "  operator +(o) => P(x + o.x);" ∷
+    codes "  operator [](i) => i == 0 ? x : y;" ∷
+    codes "  operator []=(i, v) { x = v; }" ∷
+    codes "  operator -() => P(0 - y);" ∷
+    codes "}" ∷
+    codes "main() {" ∷
+    codes "  var p = P(5);" ∷
+    codes "  p.x += 2;" ∷
+    codes "  print(p.sum);" ∷
+    codes "  p.both = 10;" ∷
+    codes "  print((p + p).y);" ∷
+    codes "  p[0] += 7;" ∷
+    codes "  print(p[0]);" ∷
+    codes "  print((-p).y);" ∷
+    codes "  print(p.x++);" ∷
+    codes "  print(++p.x);" ∷
+    codes "}" ∷ [])
+
+abbrev pub super_members : Text
+super_members = source (
+    codes "class A {" ∷
+    codes "  var f = 1;" ∷
+    codes "  get g => 2;" ∷
+    codes "  set g(v) { print(v); }" ∷
+    codes "  m(x) => x + 1;" ∷
+    codes "  toString() => 'A';" ∷
+    codes "}" ∷
+    codes "class B extends A {" ∷
+    codes "  m(x) => super.m(x) * 10;" ∷
+    codes "  t() {" ∷
+    codes "    super.g += super.f;" ∷
+    codes "    super.f = 5;" ∷
+    codes "    return super.f;" ∷
+    codes "  }" ∷
+    codes "  toString() => 'B' + super.toString();" ∷
+    codes "}" ∷
+    codes "main() {" ∷
+    codes "  var b = B();" ∷
+    codes "  print(b.m(2));" ∷
+    codes "  print(b.t());" ∷
+    codes "  print(b);" ∷
+    codes "}" ∷ [])
+
+abbrev pub names : Text
+names = source (
+    codes "var count = 0;" ∷
+    codes "final limit = -3;" ∷
+    codes "var text;" ∷
+    codes "class A {" ∷
+    codes "  var v = 4;" ∷
+    codes "  m(p) {" ∷
+    codes "    count += p;" ∷
+    codes "    v = v + 1;" ∷
+    codes "    n();" ∷
+    codes "    return other;" ∷
+    codes "  }" ∷
+    codes "  n() { print(v); }" ∷
+    codes "  noSuchMethod(i) => i.memberName;" ∷
+    codes "}" ∷
+    codes "main() {" ∷
+    codes "  var a = A();" ∷
+    codes "  print(a.m(2));" ∷
+    codes "  print(count);" ∷
+    codes "  print(limit);" ∷
+    codes "  print(text);" ∷
+    codes "}" ∷ [])
+
+abbrev pub construction : Text
+construction = source (
+    codes "class A {" ∷
+    codes "  var a;" ∷
+    codes "  final b = 'b';" ∷
+    codes "  A(this.a) { print('in A'); }" ∷
+    codes "}" ∷
+    codes "class B extends A {" ∷
+    codes "  var c;" ∷
+    codes "  B(x, this.c) : super(x + c) { c = c * 2; print('in B'); }" ∷
+    codes "}" ∷
+    codes "main() {" ∷
+    codes "  var o = B(1, 2);" ∷
+    codes "  print(o.a);" ∷
+    codes "  print(o.b);" ∷
+    codes "  print(o.c);" ∷
+    codes "  print(Object());" ∷
+    codes "}" ∷ [])
+
+abbrev pub shapes : Text
+shapes = source (
+    codes "abstract class Shape {" ∷
+    codes "  area();" ∷
+    codes "  toString() => 'area ${area()}';" ∷
+    codes "}" ∷
+    codes "class Square extends Shape {" ∷
+    codes "  final side;" ∷
+    codes "  Square(this.side);" ∷
+    codes "  @override" ∷
+    codes "  area() => side * side;" ∷
+    codes "}" ∷
+    codes "class Rect extends Shape {" ∷
+    codes "  final w;" ∷
+    codes "  final h;" ∷
+    codes "  Rect(this.w, this.h);" ∷
+    codes "  @override" ∷
+    codes "  area() => w * h;" ∷
+    codes "}" ∷
+    codes "main() {" ∷
+    codes "  var shapes = [Square(3), Rect(2, 5)];" ∷
+    codes "  for (var i = 0; i < shapes.length; i++) {" ∷
+    codes "    print(shapes[i]);" ∷
+    codes "  }" ∷
+    codes "}" ∷ [])
+
+abbrev pub conditions : Text
+conditions = source (
+    codes "f(x) { print(x); return x; }" ∷
+    codes "main() {" ∷
+    codes "  print(f(false) && f(true));" ∷
+    codes "  print(f(true) || f(false));" ∷
+    codes "  print(!f(true));" ∷
+    codes "  print(f(true) ? 1 : f(2));" ∷
+    codes "  if (f(false)) print(3); else print(4);" ∷
+    codes "  if (f(true)) print(5);" ∷
+    codes "  if (false) print(6);" ∷
+    codes "}" ∷ [])
+
+abbrev pub loops : Text
+loops = source (
+    codes "main() {" ∷
+    codes "  var i = 0;" ∷
+    codes "  while (true) { i++; if (i == 2) continue; if (i > 3) break; print(i); }" ∷
+    codes "  do { i--; if (i == 2) continue; print(i); } while (i > 1);" ∷
+    codes "  for (;;) { break; }" ∷
+    codes "  for (var j = 0; j < 3; j = j + 1, i += 10) { if (j == 1) continue; print(j); }" ∷
+    codes "  print(i);" ∷
+    codes "}" ∷ [])
+
+abbrev pub returns : Text
+returns = source (
+    codes "a() { return 1; print(0); }" ∷
+    codes "b() { return; }" ∷
+    codes "c() { ; { var x = 2; print(x); } { var x = 3; print(x); } }" ∷
+    codes "d(x) => x;" ∷
+    codes "main() {" ∷
+    codes "  print([a(), b(), c(), d(4)]);" ∷
+    codes "}" ∷ [])
+
+abbrev pub endless_loop : Text
+endless_loop = source (
+    codes "main() { while (true) { print(1); } }" ∷ [])
+
+abbrev pub depth_limit : Text
+depth_limit = source (
+    codes "f(n) { if (n == 0) return 0; return 1 + f(n - 1); }" ∷
+    codes "main() { print(f(1998)); }" ∷
+    codes "@pragma('vm:entry-point')" ∷
+    codes "deeper() { print(f(1999)); }" ∷ [])
+
+abbrev pub twenty_levels : Text
+twenty_levels = source (
+    codes "f(n) { if (n == 0) return 0; return 1 + f(n - 1); }" ∷
+    codes "main() { print(f(18)); }" ∷
+    codes "@pragma('vm:entry-point')" ∷
+    codes "deeper() { print(f(19)); }" ∷ [])
+
+abbrev pub deepest : Text
+deepest = source (
+    codes "main() => main();" ∷ [])
+
+abbrev pub condition_is_no_bool : Text
+condition_is_no_bool = source (
+    codes "main() { print(1); if (1) print(2); }" ∷ [])
+
+abbrev pub index_is_not_there : Text
+index_is_not_there = source (
+    codes "main() { print([1][1]); }" ∷ [])
+
+abbrev pub shift_is_negative : Text
+shift_is_negative = source (
+    codes "main() { 1 << -1; }" ∷ [])
+
+abbrev pub throws_an_object : Text
+throws_an_object = source (
+    codes "class A { toString() => 'x'; }" ∷
+    codes "main() { 1 is int; throw A(); }" ∷ [])
+
+abbrev pub throws_a_text : Text
+throws_a_text = source (
+    codes "main() { throw 'x' + 'y'; }" ∷ [])
+
+abbrev pub throws_null : Text
+throws_null = source (
+    codes "main() { throw null; }" ∷ [])
+
+abbrev pub text_is_no_string : Text
+text_is_no_string = source (
+    codes "class A { toString() => 1; }" ∷
+    codes "main() { print(A()); }" ∷ [])
+
+abbrev pub equal_is_no_bool : Text
+equal_is_no_bool = source (
+    codes "class A { operator ==(o) => 1; }" ∷
+    codes "main() { print(A() == A()); }" ∷ [])
