@@ -1,0 +1,2 @@
+//! What the tables of sites and selectors of a numbered program have.
+#![tactic(auto)]

@@ -1,0 +1,17 @@
+pub mod Places
+pub mod Repeats
+pub mod DuplicateName
+pub mod Supers
+pub mod InParts
+pub mod Members
+pub mod Statics
+pub mod UndefinedName
+pub mod MixedName
+pub mod TearOff
+pub mod BadOverride
+pub mod AbstractMade
+pub mod FinalWritten
+pub mod BadReturnPlace
+pub mod Shadowed
+pub mod WrongArgumentsOfStatic
+pub mod Accepted
