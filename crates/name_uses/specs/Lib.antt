@@ -1,0 +1,5 @@
+pub mod Undo
+pub mod Using
+pub mod Found
+pub mod Looked
+pub mod Meant
