@@ -1,0 +1,17 @@
+pub mod Scopes
+pub mod Places
+pub mod Expressions
+pub mod Statements
+pub mod Throughout
+pub mod Accessors
+pub mod Names
+pub mod Uses
+pub mod Params
+pub mod Bodies
+pub mod Tops
+pub mod Each
+pub mod Members
+pub mod Constructors
+pub mod Finding
+pub mod Statics
+pub mod Whole

@@ -1,0 +1,11 @@
+pub mod Lists
+pub mod Kept
+pub mod Ways
+pub mod Chains
+pub mod Orders
+pub mod Numbers
+pub mod Above
+pub mod ClassesAgree
+pub mod Accepted
+pub mod ClassesSound
+pub mod members
