@@ -1,0 +1,5 @@
+pub mod Views
+pub mod Maps
+pub mod Opened
+pub mod Lists
+pub mod Names

@@ -1,0 +1,7 @@
+use Rattle.std.proofs.Common.{◌≡◌, ◌++◌, drop, map}
+use Rattle.dart_syntax.specs.View.{param}
+use Rattle.dart_meaning.specs.Numbering.{param_names}
+use Rattle.body_numbers.proofs.slots.with_params.Given as goal
+
+abbrev pub invariant-loop-x : goal.invariant-loop-x
+invariant-loop-x l = param_names (map param (drop l.x-index l.params)) ++ l.slots ≡ param_names (map param l.params)

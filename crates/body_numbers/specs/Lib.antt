@@ -1,0 +1,5 @@
+pub mod Maps
+pub mod Open
+pub mod Views
+pub mod Meant
+pub mod Bodies

@@ -1,0 +1,47 @@
+-- The open variables of a body, and the slots of their names.
+use Rattle.std.specs.Prelude.{ℕ, ◌≡◌, suc, ◌-◌, ◌++◌, List, [], ◌∷◌, length, map}
+use Rattle.std.specs.Option.{option_map}
+use Rattle.std.specs.HashMap.{HashMap}
+use Rattle.std.specs.Borrow.{Bor}
+use Rattle.dart_syntax.specs.Bytes.{Text}
+use Rattle.dart_syntax.specs.Syntax as t
+use Rattle.dart_syntax.specs.Syntax.{Sta}
+use Rattle.body_numbers.specs.Maps.{Meanings, in_map}
+use Rattle.dart_meaning.specs.Numbering.{index_of}
+use Rattle.body_numbers.specs.declared.slots.Open.{Open}
+
+-- the slot of each name, where the newest variable stands first in the list
+unfoldable pub slots : List Text → Meanings ℕ
+slots names q = option_map (λ k. length names - suc k) (index_of q names)
+
+abbrev pub names_of : List Open → List Text
+names_of stack = map (λ (o : Open). o.name.now) stack
+
+-- Each variable keeps what its name stood for before.
+abbrev pub KeepsBefore : List Open → Type 0
+KeepsBefore [] = Unit {0}
+KeepsBefore (o ∷ more) = (o.was ≡ slots (names_of more) o.name.now) × KeepsBefore more
+
+-- The map has the slots of the open variables, and can be led back.
+pub record IsKept {S : Type 0} (known : HashMap (Bor Text) ℕ S) (stack : List Open) : Type 0 where
+  pub agrees : in_map known ≡ slots (names_of stack)
+  pub before : KeepsBefore stack
+
+-- the names that are open behind a statement
+abbrev pub after : List Text → Sta → List Text
+after names (t.local x) = x.name.text ∷ names
+after names (t.block all) = names
+after names (t.run e) = names
+after names t.empty = names
+after names (t.when e x) = names
+after names (t.when_else e x y) = names
+after names (t.while e x) = names
+after names (t.do_while x e) = names
+after names (t.for start e last x) = names
+after names (t.break span) = names
+after names (t.continue span) = names
+after names (t.return span e) = names
+
+-- what was open, and more
+unfoldable pub Grown : List Text → List Text → Type 0
+Grown old new = (more : List Text) × (new ≡ more ++ old)

@@ -1,0 +1,4 @@
+pub mod Refusals
+pub mod Counted
+pub mod Texts
+pub mod Entries

@@ -1,0 +1,6 @@
+pub mod Lists
+pub mod Lines
+pub mod Sets
+pub mod Places
+pub mod Numbers
+pub mod Limits

@@ -1,0 +1,2 @@
+pub mod SourceSites
+pub mod Rows

@@ -1,0 +1,12 @@
+use Rattle.std.proofs.Common.{◌∙◌}
+use Rattle.dart_syntax.specs.View.{unit}
+use Rattle.text_names.specs.Maps.{in_set}
+use Rattle.text_names.specs.Around.{knows}
+use Rattle.text_names.specs.Tops.{stands_for}
+use Rattle.text_names.proofs.Exact.{is_top_is}
+use Rattle.text_names.proofs.names.TextNames.is_top.Goals as goal
+
+pub returns : goal.returns
+returns c =
+    let s = c.args.self.now in
+    c.has_top.ensures ∙ is_top_is (unit s.tree.now) (stands_for s.tops) (knows s.classes) (in_set s.methods) (in_set s.accessors) s.built_in.classes s.built_in.methods s.exact c.args.name.now

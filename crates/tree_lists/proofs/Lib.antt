@@ -1,0 +1,2 @@
+mod SameBody
+pub mod BuiltIn

@@ -1,0 +1,6 @@
+mod Maps
+mod Preorder
+mod Kept
+mod Pairs
+mod Climbing
+mod Told

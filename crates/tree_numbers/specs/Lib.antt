@@ -1,0 +1,9 @@
+pub mod Maps
+pub mod Parts
+pub mod Places
+pub mod ClassFacts
+pub mod Order
+pub mod Members
+pub mod Walks
+pub mod Asked
+pub mod Exact
