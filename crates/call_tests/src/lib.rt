@@ -1,0 +1,27 @@
+//! Tests of the public calls of the libraries: texts, trees, streams and the members at their edges, by tables.
+#![tactic(auto)]
+
+#[cfg(test)]
+mod built_in;
+#[cfg(test)]
+mod classes;
+#[cfg(test)]
+mod declarations;
+#[cfg(test)]
+mod lookup;
+#[cfg(test)]
+mod members;
+#[cfg(test)]
+mod parsing;
+#[cfg(test)]
+mod printing;
+#[cfg(test)]
+mod resolving;
+#[cfg(test)]
+mod rows;
+#[cfg(test)]
+mod streams;
+#[cfg(test)]
+mod tokens;
+#[cfg(test)]
+mod uses;
