@@ -1,14 +1,15 @@
 // Cells of one thread: for each site the class of its first call.
-ghost use Rattle.std.specs.Prelude.{◌≡◌, ◌↔◌, ◌<◌, ◌≤◌, ◌++◌, [], ◌∷◌, ℕ, List, length, IfOk, option_map, replicate, None, Some};
-ghost use Rattle.first_program.specs.Numbered.{selector_of, IsConcrete};
-ghost use Rattle.first_program.specs.Lookup.{resolve};
-ghost use Rattle.call_cell.specs.Sites.{state_at, AfterCalls, transitions};
+ghost use Rattle.std.specs.Prelude.{◌≡◌, ◌↔◌, ◌<◌, ◌≤◌, ◌++◌, [], ◌∷◌, ℕ, List, length, IfOk, option_map, replicate, None, Some, IsTrue};
+ghost use Rattle.program.specs.Parts.{is_concrete};
+ghost use Rattle.program.specs.Program.{parts_of};
+ghost use Rattle.program.specs.Lookup.{resolve};
+ghost use Rattle.call_cell.specs.Sites.{selector_of, state_at, AfterCalls, transitions};
 ghost use Rattle.call_cell.specs.Laws.{after_calls_none, after_calls_both};
 
 use crate::{Cells, Dispatched, How};
 use ds_base::{NoMemory, Steps};
-use first_lookup::Linked;
-use first_program::{ClassId, SiteId};
+use method_lookup::Linked;
+use program::{ClassId, SiteId, Target};
 use std::alloc::Global;
 use std::marker::Model;
 use std::sync::ledger::Ledger;
@@ -21,7 +22,7 @@ pub struct PlainCells {
 
 impl Model for PlainCells {
     ghost use Rattle.std.specs.Prelude.{List, Option};
-    ghost use Rattle.first_program.specs.declared.ids.ClassId.{ClassId};
+    ghost use Rattle.program.specs.declared.ids.ClassId.{ClassId};
 
     ghost Value = { List (Option ClassId) };
 
@@ -44,10 +45,30 @@ impl PlainCells {
     {
         self.first[site.0 as usize]
     }
+
+    /// A call on class `c` at a site: the first one is kept.
+    fn visit(&mut self, site: SiteId, c: ClassId) -> How
+        requires { site.0 < length self.old }
+        ensures length { length self.new ≡ length self.old }
+        ensures seen { (s : ℕ) → transitions (state_at self.old s) ≤ transitions (state_at self.new s) }
+        ensures stamp { transitions (state_at self.new site.0) ≡ 1 }
+        ensures after { AfterCalls (state_at self.old) ((site.0, c.0) ∷ []) (state_at self.new) }
+        ensures how { (result ≡ How.Hit) ↔ (state_at self.old site.0 ≡ Some c.0) }
+    {
+        let at = site.0 as usize;
+        match self.first[at] {
+            Some(first) if first.0 == c.0 => How::Hit,
+            Some(_) => How::Miss,
+            None => {
+                self.first[at] = Some(c);
+                How::Miss
+            }
+        }
+    }
 }
 
 impl Cells for PlainCells {
-    ghost answers = { λ _ linked c sel. resolve linked.program c sel };
+    ghost answers = { λ _ linked c sel. resolve (parts_of linked.program) c sel };
 
     ghost fits = { λ cells linked. length cells ≡ length linked.program.sites };
 
@@ -68,29 +89,30 @@ impl Cells for PlainCells {
     ) -> Dispatched
         requires made { length self.old ≡ length linked.now.program.sites }
         requires site { site.0 < length linked.now.program.sites }
-        requires concrete { IsConcrete linked.now.program.classes c.0 }
-        ensures target { result.target ≡ resolve linked.now.program c.0 (selector_of linked.now.program.sites site.0) }
+        requires concrete { IsTrue (is_concrete linked.now.program.classes c.0) }
+        ensures target { result.target ≡ resolve (parts_of linked.now.program) c.0 (selector_of linked.now.program.sites site.0) }
         ensures made { length self.new ≡ length linked.now.program.sites }
         ensures seen { (s : ℕ) → transitions (state_at self.old s) ≤ transitions (state_at self.new s) }
         ensures stamp { result.stamp ≡ transitions (state_at self.new site.0) }
         ensures after { AfterCalls (state_at self.old) ((site.0, c.0) ∷ []) (state_at self.new) }
         ensures how { (result.how ≡ How.Hit) ↔ (state_at self.old site.0 ≡ Some c.0) }
     {
-        let at = site.0 as usize;
-        let selector = linked.program().sites.as_slice()[at].selector;
-        let target = linked.target_of(c, selector);
-        let how = match self.first[at] {
-            Some(first) if first.0 == c.0 => How::Hit,
-            Some(_) => How::Miss,
-            None => {
-                self.first[at] = Some(c);
-                How::Miss
-            }
-        };
+        let target = target_at(linked, site, c);
+        let how = self.visit(site, c);
         Dispatched {
             target,
             how,
             stamp: 1,
         }
     }
+}
+
+/// The target of a call at a site, by lookup.
+fn target_at(linked: &Linked, site: SiteId, c: ClassId) -> Target
+    requires site { site.0 < length linked.now.program.sites }
+    requires concrete { IsTrue (is_concrete linked.now.program.classes c.0) }
+    ensures { result ≡ resolve (parts_of linked.now.program) c.0 (selector_of linked.now.program.sites site.0) }
+{
+    let selector = linked.program().sites.as_slice()[site.0 as usize].selector;
+    linked.target_of(c, selector)
 }

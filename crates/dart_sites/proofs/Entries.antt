@@ -1,15 +1,16 @@
 -- The numbered program means what its tree means.
 use Rattle.std.proofs.Common.{◌≡◌, ℕ, zero, suc, ◌+◌, List, [], ◌∷◌, refl, ap, sym, subst, ◌∙◌, arith, Option, Some, None, Bool, true, false, add-one, add-zero}
-use Rattle.std.specs.Prelude.{slice_get, unwrap_or, length, is_some, ◌&&◌}
-use Rattle.std.specs.Str.{bytes_eq}
+use Rattle.std.specs.Prelude.{ℤ, pos, slice_get, unwrap_or, length, is_some, ◌&&◌}
 use Rattle.std.specs.List.{enumerate_from, list_all}
-use Rattle.first_program.specs.declared.numbered.Numbered.{Numbered}
+use Rattle.program.specs.declared.numbered.Numbered.{Numbered}
 use Rattle.dart_sites.specs.declared.running.PrintCall.{PrintCall}
-use Rattle.first_program.specs.Lookup.{resolve}
+use Rattle.program.specs.Lookup.{resolve}
+use Rattle.program.specs.Program.{parts_of}
+use Rattle.small_program.specs.Small.{IsSmall}
 use Rattle.first_form.specs.declared.form.PrintStmt.{PrintStmt}
 use Rattle.first_form.specs.declared.form.Form.{Form}
 use Rattle.dart_sites.specs.Meaning.{Act, each, ◌▹◌, print_value}
-use Rattle.dart_sites.specs.Numbering.{body_from, IsProgramOf}
+use Rattle.dart_sites.specs.Numbering.{body_from, small_of, IsProgramOf}
 use Rattle.dart_sites.specs.Running.{print_act}
 use Rattle.first_form.specs.Names.{value_of, is_call}
 use Rattle.dart_sites.specs.Entry.{statement}
@@ -28,18 +29,18 @@ each_same f g j (p ∷ prints) h =
     ∙ ap (λ n. each g (enumerate_from n prints)) (sym (add-one j)) in
     ap (λ a. a ▹ each f (body_from (suc j) prints)) first ∙ ap (λ a. g (j, p) ▹ a) rest
 
-value_is : (o : Option ℕ) → is_some o ≡ true → o ≡ Some (unwrap_or o 0)
+value_is : (o : Option ℤ) → is_some o ≡ true → o ≡ Some (unwrap_or o (pos 0))
 value_is None e = absurd cc
 value_is (Some v) e = refl
 
-pub same_act : (t : Form) (p : Numbered) → IsProgramOf t p →
+pub same_act : (source : List ℕ) (t : Form) (p : Numbered) → IsProgramOf source t p → IsSmall (small_of source t) →
     ((k : ℕ) (s : PrintStmt) → slice_get t.prints k ≡ Some s → is_some (value_of t.methods s.method) ≡ true) →
-    each (print_act p (resolve p) (length t.prints)) (body_from 0 t.prints) ≡ each (statement t) (enumerate_from 0 t.prints)
-same_act t p prog known =
-    each_same (print_act p (resolve p) (length t.prints)) (statement t) 0 t.prints (λ k s e.
+    each (print_act p (resolve (parts_of p)) (length t.prints)) (body_from 0 t.prints) ≡ each (statement t) (enumerate_from 0 t.prints)
+same_act source t p prog small known =
+    each_same (print_act p (resolve (parts_of p)) (length t.prints)) (statement t) 0 t.prints (λ k s e.
     let zero_plus : 0 + k ≡ k = omega arith in
-    subst (λ n. print_act p (resolve p) (length t.prints) (print_at n) ≡ statement t (n, s)) (sym zero_plus)
-    (ap (print_value k 7 (length t.prints) 3) (resolved t p prog k s (unwrap_or (value_of t.methods s.method) 0) e (value_is (value_of t.methods s.method) (known k s e)))))
+    subst (λ n. print_act p (resolve (parts_of p)) (length t.prints) (print_at n) ≡ statement t (n, s)) (sym zero_plus)
+    (ap (print_value k 7 (length t.prints) 3) (resolved source t p prog small k s (unwrap_or (value_of t.methods s.method) (pos 0)) e (value_is (value_of t.methods s.method) (known k s e)))))
 
 both_true : (a b : Bool) → (a && b) ≡ true → (a ≡ true) × (b ≡ true)
 both_true true b e = (refl, e)

@@ -1,12 +1,18 @@
 -- What was told of the bytes that were read, said of the bytes that the source held.
-use Rattle.std.proofs.Common.{◌≡◌, ℕ, List, Bool, sym, subst, ◌∙◌, Option, Some, None, IfSome}
+use Rattle.std.proofs.Common.{◌≡◌, ℕ, List, Bool, refl, sym, subst, ◌∙◌, Option, Some, None, IfSome}
 use Rattle.std.specs.Io.KnownBytes.{Appends, IsAtEnd}
 use Rattle.first_form.specs.Form.{form_of}
 use Rattle.dart_sites.specs.declared.words.Request.{Request}
 use Rattle.dart_sites.specs.Outside.{ReadAll}
 use Rattle.dart_sites.specs.Source.{IsSource}
-use Rattle.dart_sites.specs.Top.{Says, Defines, WholeWritten, PartWritten, CutShort, NoSource, IsUnbuilt, LineWritten, SyntaxRefusal, IsAccepted}
+use Rattle.dart_sites.specs.declared.words.Request.TheVariants.{Check, Run}
+use Rattle.dart_syntax.specs.Syntax.{Tree}
+use Rattle.static_rules.specs.Accepted as rules
+use Rattle.static_rules.specs.Accepted.{failing, exceeded, counts}
+use Rattle.dart_sites.specs.Refusals.{missing}
+use Rattle.dart_sites.specs.Top.{Says, Defines, WholeWritten, PartWritten, CutShort, NoSource, NamesRefused, WrongNames, breaks, no_entry, unbuilt, OverLimit, LineWritten, SourceRefused, RequestRefused, HasForm, entries, is_run, IsAccepted}
 use Rattle.dart_sites.specs.Words.{Asks}
+use Rattle.dart_sites.proofs.FourWords.{check_is_no_run}
 
 defines : (words : List (List ℕ)) (input bytes given text : List ℕ) (left : Option (List ℕ)) (request : Request) (all_done : Bool) →
     Asks words request → ReadAll (Some input) left bytes → given ≡ bytes → Says request given text all_done → Defines words input left text all_done
@@ -27,25 +33,61 @@ part_written words None left held holds bytes given text request all_done asks a
 part_written words (Some input) left held holds bytes given text request all_done asks all same says cut =
     record { text = text; all_done = all_done; defined = defines words input bytes given text left request all_done asks all same says; written = cut }
 
-pub syntax_refusal : (old left held holds : Option (List ℕ)) (before now : ℕ) (bytes given line : List ℕ) → ReadAll old left bytes → given ≡ bytes → NoSource given line →
-    LineWritten held holds before now line → IfSome old (λ input. SyntaxRefusal input left held holds before now)
-syntax_refusal None left held holds before now bytes given line all same none written = tt
-syntax_refusal (Some input) left held holds before now bytes given line all same none written =
-    record { line = line; no_source = subst (λ b. NoSource b line) (same ∙ sym all.all.0) none; read = all.all.1; written = written }
+pub source_refused : (why : List ℕ → List ℕ → Type 0) (old left held holds : Option (List ℕ)) (before now : ℕ) (bytes given line : List ℕ) → ReadAll old left bytes → given ≡ bytes → why given line →
+    LineWritten held holds before now line → IfSome old (λ input. SourceRefused why input left held holds before now)
+source_refused why None left held holds before now bytes given line all same because written = tt
+source_refused why (Some input) left held holds before now bytes given line all same because written =
+    record { line = line; because = subst (λ b. why b line) (same ∙ sym all.all.0) because; read = all.all.1; written = written }
 
-pub unbuilt_told : (old left : Option (List ℕ)) (bytes given : List ℕ) → ReadAll old left bytes → given ≡ bytes → IsUnbuilt given → IfSome old (λ input. IsUnbuilt input × IsAtEnd left)
-unbuilt_told None left bytes given all same is = tt
-unbuilt_told (Some input) left bytes given all same is = (subst IsUnbuilt (same ∙ sym all.all.0) is, all.all.1)
+pub request_refused : (words : List (List ℕ)) (old left held holds : Option (List ℕ)) (before now : ℕ) (bytes given line : List ℕ) (request : Request) → Asks words request →
+    ReadAll old left bytes → given ≡ bytes → NamesRefused request given line → LineWritten held holds before now line →
+    IfSome old (λ input. RequestRefused words input left held holds before now)
+request_refused words None left held holds before now bytes given line request asks all same because written = tt
+request_refused words (Some input) left held holds before now bytes given line request asks all same because written =
+    record {
+      request = request;
+      asks = asks;
+      refused = record { line = line; because = subst (λ b. NamesRefused request b line) (same ∙ sym all.all.0) because; read = all.all.1; written = written };
+    }
 
-pub refused_not_accepted : (words : List (List ℕ)) (old left : Option (List ℕ)) (bytes given line : List ℕ) → ReadAll old left bytes → given ≡ bytes → NoSource given line → IsAccepted words old → ⊥
-refused_not_accepted words None left bytes given line all same none accepted = accepted.source
-refused_not_accepted words (Some input) left bytes given line all same none accepted =
+pub no_source_not_accepted : (words : List (List ℕ)) (old left : Option (List ℕ)) (bytes given line : List ℕ) → ReadAll old left bytes → given ≡ bytes → NoSource given line → IsAccepted words old → ⊥
+no_source_not_accepted words None left bytes given line all same none accepted = accepted.source
+no_source_not_accepted words (Some input) left bytes given line all same none accepted =
     none.no_tree accepted.tree (subst (λ b. IsSource b accepted.tree) (all.all.0 ∙ sym same) accepted.source.0)
 
-pub unbuilt_not_accepted : (words : List (List ℕ)) (old left : Option (List ℕ)) (bytes given : List ℕ) → ReadAll old left bytes → given ≡ bytes → IsUnbuilt given → IsAccepted words old → ⊥
-unbuilt_not_accepted words None left bytes given all same is accepted = accepted.source
-unbuilt_not_accepted words (Some input) left bytes given all same is accepted =
-    let tree : is.tree ≡ accepted.tree = is.tree_of.only accepted.tree (subst (λ b. IsSource b accepted.tree) (all.all.0 ∙ sym same) accepted.source.0) in
-    let none : form_of accepted.tree ≡ None = subst (λ t. form_of t ≡ None) tree is.no_form in
-    let some : form_of accepted.tree ≡ Some accepted.form = accepted.form_is in
+-- A request that words ask for is the only one.
+one_request : (words : List (List ℕ)) (r s : Request) → Asks words r → Asks words s → is_run r ≡ is_run s
+one_request words Check Check p q = refl
+one_request words Check (Run n) p q = absurd (check_is_no_run words n p q)
+one_request words (Run n) Check p q = absurd (check_is_no_run words n q p)
+one_request words (Run n) (Run m) p q = refl
+
+-- An accepted tree has no wrong names.
+names_fit : (r s : Request) (tree : Tree) (input line : List ℕ) → is_run r ≡ is_run s → rules.IsAccepted tree → missing tree (entries s) ≡ None → HasForm s tree → WrongNames r tree input line → ⊥
+names_fit r s tree input line same accepted there form (breaks broken is) =
+    let none : failing tree ≡ None = accepted.rules in
+    cc
+names_fit Check s tree input line same accepted there form (no_entry also gone is) = cc
+names_fit (Run n) Check tree input line same accepted there form (no_entry also gone is) = cc
+names_fit (Run n) (Run m) tree input line same accepted there form (no_entry also gone is) = cc
+names_fit Check s tree input line same accepted there form (unbuilt also gone run none is) = cc
+names_fit (Run n) Check tree input line same accepted there form (unbuilt also gone run none is) = cc
+names_fit (Run n) (Run m) tree input line same accepted there form (unbuilt also gone run none is) =
+    let some : form_of tree ≡ Some form.0 = form.1 in
+    cc
+
+pub names_not_accepted : (words : List (List ℕ)) (old left : Option (List ℕ)) (bytes given line : List ℕ) (request : Request) → Asks words request → ReadAll old left bytes → given ≡ bytes →
+    NamesRefused request given line → IsAccepted words old → ⊥
+names_not_accepted words None left bytes given line request asks all same refused accepted = accepted.source
+names_not_accepted words (Some input) left bytes given line request asks all same refused accepted =
+    let tree : refused.tree ≡ accepted.tree = refused.tree_of.only accepted.tree (subst (λ b. IsSource b accepted.tree) (all.all.0 ∙ sym same) accepted.source.0) in
+    names_fit request accepted.request accepted.tree given line (one_request words request accepted.request asks accepted.asks) accepted.accepted accepted.entries accepted.form
+    (subst (λ t. WrongNames request t given line) tree refused.wrong)
+
+pub limit_not_accepted : (words : List (List ℕ)) (old left : Option (List ℕ)) (bytes given line : List ℕ) → ReadAll old left bytes → given ≡ bytes → OverLimit given line → IsAccepted words old → ⊥
+limit_not_accepted words None left bytes given line all same over accepted = accepted.source
+limit_not_accepted words (Some input) left bytes given line all same over accepted =
+    let tree : over.tree ≡ accepted.tree = over.tree_of.only accepted.tree (subst (λ b. IsSource b accepted.tree) (all.all.0 ∙ sym same) accepted.source.0) in
+    let some : exceeded (counts accepted.tree) ≡ Some (over.what, over.count) = subst (λ t. exceeded (counts t) ≡ Some (over.what, over.count)) tree over.over in
+    let none : exceeded (counts accepted.tree) ≡ None = accepted.accepted.limits in
     cc

@@ -10,10 +10,10 @@ use Rattle.call_cell.specs.Sites.{classes_at, state_at}
 use Rattle.first_form.specs.declared.form.PrintStmt.{PrintStmt}
 use Rattle.first_form.specs.declared.form.Form.{Form}
 use Rattle.dart_sites.specs.declared.report.SiteText.{SiteText}
-use Rattle.first_program.specs.declared.numbered.Class.{Class}
+use Rattle.program.specs.declared.numbered.Class.{Class}
 use Rattle.std.proofs.lemmas.List.{length-map}
 use Rattle.dart_sites.specs.Meaning.{counted}
-use Rattle.dart_sites.specs.Numbering.{body_from, sites_from}
+use Rattle.dart_sites.specs.Numbering.{body_from}
 use Rattle.dart_sites.specs.Report.{site_line, site_lines, statement_site, prelude_sites, sites_of}
 use Rattle.dart_sites.proofs.Entries.{print_at}
 
@@ -39,10 +39,6 @@ counted_at counts (call ∷ calls) s h =
 pub length-body : (j : ℕ) (prints : List PrintStmt) → length (body_from j prints) ≡ length prints
 length-body j [] = refl
 length-body j (p ∷ prints) = ap suc (length-body (suc j) prints)
-
-pub length-sites : (j : ℕ) (prints : List PrintStmt) → length (sites_from j prints) ≡ length prints + 2
-length-sites j [] = refl
-length-sites j (p ∷ prints) = ap suc (length-sites (suc j) prints) ∙ omega arith
 
 pub body_at : (j : ℕ) (prints : List PrintStmt) (k : ℕ) (d : PrintCall) → k < length prints → slice_index_or (body_from j prints) k d ≡ print_at (j + k)
 body_at j [] k d h = absurd (omega arith)

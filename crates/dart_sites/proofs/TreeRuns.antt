@@ -1,33 +1,47 @@
 -- A run of the numbered program of a tree tells what the tree means.
 use Rattle.std.proofs.Common.{◌≡◌, ℕ, ◌+◌, ◌<◌, ◌≤◌, List, [], ◌++◌, length, refl, ap, sym, subst, ◌∙◌, arith, Option, None, append-nil}
-use Rattle.std.specs.Prelude.{slice_index, replicate, unwrap_or, fold, All, codes}
+use Rattle.std.specs.Prelude.{slice_index, replicate, unwrap_or, fold, All, codes, IsTrue, map}
 use Rattle.std.proofs.lemmas.List.{length-replicate}
-use Rattle.std.proofs.lemmas.Bool.Decides.{nat_tests}
-use Rattle.first_program.specs.declared.numbered.Numbered.{Numbered}
+use Rattle.std.proofs.lemmas.List.{length-map}
+use Rattle.program.specs.declared.numbered.Class.{Class}
+use Rattle.program.specs.declared.numbered.Numbered.{Numbered}
 use Rattle.dart_sites.specs.declared.running.PrintCall.{PrintCall}
-use Rattle.first_program.specs.declared.ids.ClassId.{ClassId}
-use Rattle.first_program.specs.Numbered.{IsConcrete}
-use Rattle.first_program.specs.Lookup.{resolve}
+use Rattle.program.specs.declared.ids.ClassId.{ClassId}
+use Rattle.program.specs.Lookup.{resolve}
+use Rattle.program.specs.Parts.{Parts, is_concrete}
+use Rattle.program.specs.Program.{parts_of}
+use Rattle.small_program.specs.Numbering.{selectors_of}
+use Rattle.small_program.proofs.SiteFacts.{length-sites}
 use Rattle.call_cell.specs.Sites.{classes_at, state_at, after_call, AfterCalls}
 use Rattle.first_form.specs.declared.form.Form.{Form}
 use Rattle.dart_sites.specs.declared.running.Ending.{Ending}
 use Rattle.dart_sites.specs.declared.running.Ending.TheVariants.{Done}
 use Rattle.dart_sites.specs.declared.running.Running.{Running}
 use Rattle.dart_sites.specs.Meaning.{spend, each, ◌▹◌}
-use Rattle.dart_sites.specs.Numbering.{classes, body_from, IsProgramOf}
+use Rattle.dart_sites.specs.Numbering.{classes, body_from, small_of, small_print, IsProgramOf}
 use Rattle.dart_sites.specs.Running.{Did, print_act, at_start}
 use Rattle.first_form.specs.Names.{IsNamed}
 use Rattle.dart_sites.specs.Entry.{EntryMeaning, main_act, entry_meaning}
 use Rattle.dart_sites.specs.Report.{entry_part, site_lines, sites_of, calls_at, alone, text_of_run}
 use Rattle.dart_sites.proofs.Entries.{same_act, call_at}
-use Rattle.dart_sites.proofs.Reports.{length-counted, counted_at, length-body, length-sites, body_at, unlinked_at, zero_at, site_lines_same, length-sites_of}
+use Rattle.dart_sites.proofs.Smalls.{form_is_small}
+use Rattle.dart_sites.proofs.Reports.{length-counted, counted_at, length-body, body_at, unlinked_at, zero_at, site_lines_same, length-sites_of}
 
 abbrev pub PlainAfter : List (Option ClassId) → List (ℕ × ℕ) → List (Option ClassId) → Type 0
 PlainAfter old calls new = AfterCalls (state_at old) calls (state_at new)
 
-module _ (source : List ℕ) (t : Form) (p : Numbered) (prog : IsProgramOf t p) (named : IsNamed t) where
+module _ (source : List ℕ) (t : Form) (p : Numbered) (prog : IsProgramOf source t p) (named : IsNamed t) where
   pub sites_are : length p.sites ≡ length t.prints + 2
-  sites_are = ap length prog.sites_are ∙ length-sites 0 t.prints
+  sites_are =
+      ap (λ (q : Parts). length q.sites) prog ∙ length-sites (selectors_of (small_of source t)) (map (small_print source) t.prints)
+      ∙ ap (λ n. n + 2) (length-map t.prints (small_print source))
+
+  pub classes_are : p.classes ≡ classes t.class
+  classes_are = ap (λ (q : Parts). q.classes) prog
+
+  -- the class `int`
+  pub int_concrete : IsTrue (is_concrete p.classes 3)
+  int_concrete = subst (λ (cs : List Class). IsTrue (is_concrete cs 3)) (sym classes_are) refl
 
   pub few : length t.prints ≤ 1000
   few = named.few_prints
@@ -38,27 +52,26 @@ module _ (source : List ℕ) (t : Form) (p : Numbered) (prog : IsProgramOf t p) 
       let at = body_at 0 t.prints k d low in
       subst (λ (b : PrintCall). b.site.0 < length p.sites) (sym at) (omega (arith, sites_are)))
 
-  pub all_concrete : (body : List PrintCall) → body ≡ body_from 0 t.prints → All (λ (b : PrintCall). IsConcrete p.classes b.class.0) body
-  all_concrete body is = subst (λ l. All (λ (b : PrintCall). IsConcrete p.classes b.class.0) l) (sym is) (λ k d h.
+  pub all_concrete : (body : List PrintCall) → body ≡ body_from 0 t.prints → All (λ (b : PrintCall). IsTrue (is_concrete p.classes b.class.0)) body
+  all_concrete body is = subst (λ l. All (λ (b : PrintCall). IsTrue (is_concrete p.classes b.class.0)) l) (sym is) (λ k d h.
       let low : k < length t.prints = omega (arith, length-body 0 t.prints) in
       let at = body_at 0 t.prints k d low in
-      let user : IsConcrete (classes t.class) 7 = (refl, omega arith) in
-      subst (λ (b : PrintCall). IsConcrete p.classes b.class.0) (sym at) (subst (λ l. IsConcrete l 7) (sym prog.classes_are) user))
+      subst (λ (b : PrintCall). IsTrue (is_concrete p.classes b.class.0)) (sym at) (subst (λ (cs : List Class). IsTrue (is_concrete cs 7)) (sym classes_are) refl))
 
   pub did_main : (turns : ℕ) (run : Running) (cells : List (Option ClassId)) (e : Option Ending) (body : List PrintCall) → body ≡ body_from 0 t.prints →
-      Did PlainAfter (spend ▹ each (print_act p (resolve p) (length t.prints)) body) (at_start turns (length p.sites)) run (replicate (length p.sites) None) cells e →
+      Did PlainAfter (spend ▹ each (print_act p (resolve (parts_of p)) (length t.prints)) body) (at_start turns (length p.sites)) run (replicate (length p.sites) None) cells e →
       Did PlainAfter (main_act t) (at_start turns (length p.sites)) run (replicate (length p.sites) None) cells e
   did_main turns run cells e body is did =
-      let same = ap (λ l. spend ▹ each (print_act p (resolve p) (length t.prints)) l) is ∙ ap (λ a. spend ▹ a) (same_act t p prog (call_at t t.prints named.calls)) in
+      let same = ap (λ l. spend ▹ each (print_act p (resolve (parts_of p)) (length t.prints)) l) is ∙ ap (λ a. spend ▹ a) (same_act source t p prog (form_is_small source t named) (call_at t t.prints named.calls)) in
       subst (λ a. Did PlainAfter a (at_start turns (length p.sites)) run (replicate (length p.sites) None) cells e) same did
 
   pub did_from : (turns : ℕ) (run : Running) (cells0 cells : List (Option ClassId)) (e : Option Ending) (body : List PrintCall) (print_site : ℕ) → body ≡ body_from 0 t.prints → print_site ≡ length t.prints → cells0 ≡ replicate (length p.sites) None →
-      Did PlainAfter (spend ▹ each (print_act p (resolve p) print_site) body) (at_start turns (length p.sites)) run cells0 cells e →
+      Did PlainAfter (spend ▹ each (print_act p (resolve (parts_of p)) print_site) body) (at_start turns (length p.sites)) run cells0 cells e →
       Did PlainAfter (main_act t) (at_start turns (length p.sites)) run (replicate (length p.sites) None) cells e
   did_from turns run cells0 cells e body print_site is at empty did =
       did_main turns run cells e body is
-      (subst (λ k. Did PlainAfter (spend ▹ each (print_act p (resolve p) k) body) (at_start turns (length p.sites)) run (replicate (length p.sites) None) cells e) at
-      (subst (λ c. Did PlainAfter (spend ▹ each (print_act p (resolve p) print_site) body) (at_start turns (length p.sites)) run c cells e) empty did))
+      (subst (λ k. Did PlainAfter (spend ▹ each (print_act p (resolve (parts_of p)) k) body) (at_start turns (length p.sites)) run (replicate (length p.sites) None) cells e) at
+      (subst (λ c. Did PlainAfter (spend ▹ each (print_act p (resolve (parts_of p)) print_site) body) (at_start turns (length p.sites)) run c cells e) empty did))
 
   pub told_ending : (turns : ℕ) (run : Running) (cells : List (Option ClassId)) (e : Option Ending) →
       Did PlainAfter (main_act t) (at_start turns (length p.sites)) run (replicate (length p.sites) None) cells e → unwrap_or e Done ≡ (entry_meaning t turns).ending
@@ -86,6 +99,6 @@ module _ (source : List ℕ) (t : Form) (p : Numbered) (prog : IsProgramOf t p) 
       ∙ sym (append-nil (entry_part 0 (codes "main") entry.lines entry.ending)) in
       let lines : site_lines p.classes (slice_index run.calls) (state_at cells) (sites_of source t)
       ≡ site_lines (classes t.class) (calls_at (asked ++ [])) (alone (asked ++ [])) (sites_of source t) =
-      ap (λ k. site_lines k (slice_index run.calls) (state_at cells) (sites_of source t)) prog.classes_are
+      ap (λ k. site_lines k (slice_index run.calls) (state_at cells) (sites_of source t)) classes_are
       ∙ site_lines_same (classes t.class) (slice_index run.calls) (calls_at (asked ++ [])) (state_at cells) (alone (asked ++ [])) (sites_of source t) counts states in
       ap (λ l. l ++ site_lines p.classes (slice_index run.calls) (state_at cells) (sites_of source t)) part ∙ ap (λ l. (entry_part 0 (codes "main") entry.lines entry.ending ++ []) ++ l) lines

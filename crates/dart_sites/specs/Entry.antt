@@ -1,5 +1,5 @@
 -- The meaning of `main` of a program, with a number of turns.
-use Rattle.std.specs.Prelude.{ℕ, Bool, true, false, List, [], length, unwrap_or}
+use Rattle.std.specs.Prelude.{ℕ, pos, Bool, true, false, List, [], length, unwrap_or}
 use Rattle.std.specs.List.{enumerate_from}
 use Rattle.first_form.specs.declared.form.PrintStmt.{PrintStmt}
 use Rattle.first_form.specs.declared.form.Form.{Form}
@@ -10,7 +10,7 @@ use Rattle.first_form.specs.Names.{value_of}
 
 -- `print(C().m());`, the statement number j: its own site is j, and the site of `print` stands behind those of the statements
 abbrev pub statement : Form → ℕ × PrintStmt → Act
-statement f s = print_value s.0 7 (length f.prints) 3 (unwrap_or (value_of f.methods s.1.method) 0)
+statement f s = print_value s.0 7 (length f.prints) 3 (unwrap_or (value_of f.methods s.1.method) (pos 0))
 
 -- `main`: its turn, and then its statements
 abbrev pub main_act : Form → Act

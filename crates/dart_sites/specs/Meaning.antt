@@ -1,6 +1,6 @@
 -- What a program does with a number of turns: the lines that it prints and the cells that it asks, with lookup at every call and no cell in it.
-use Rattle.std.specs.Prelude.{ℕ, zero, suc, ◌+◌, List, [], ◌∷◌, ◌++◌, Option, None, Some, slice_index, slice_set}
-use Rattle.std.specs.Fmt.{decimal}
+use Rattle.std.specs.Prelude.{ℕ, ℤ, zero, suc, ◌+◌, List, [], ◌∷◌, ◌++◌, Option, None, Some, slice_index, slice_set}
+use Rattle.std.specs.Fmt.{signed_decimal}
 use Rattle.dart_sites.specs.declared.running.Ending.{Ending}
 use Rattle.dart_sites.specs.declared.running.Ending.TheVariants.{OutOfTurns}
 
@@ -44,9 +44,9 @@ abbrev pub ◌▹◌ : Act → Act → Act
 (first ▹ second) turns = continued (first turns) second
 
 -- print(C().m()) at a site: the constructor's turn, the call, the method's turn, and the call of `toString` that `print` makes
-abbrev pub print_value : ℕ → ℕ → ℕ → ℕ → ℕ → Act
+abbrev pub print_value : ℕ → ℕ → ℕ → ℕ → ℤ → Act
 print_value site class print_site int value =
-    spend ▹ ask site class ▹ spend ▹ ask print_site int ▹ emit (decimal value)
+    spend ▹ ask site class ▹ spend ▹ ask print_site int ▹ emit (signed_decimal value)
 
 -- calls of each site, with these added
 abbrev pub counted : List ℕ → List (ℕ × ℕ) → List ℕ

@@ -1,15 +1,15 @@
 -- The text of `run`: what each entry printed and how it ended, and then a line for each site.
-use Rattle.std.specs.Prelude.{ℕ, ◌+◌, List, [], ◌∷◌, ◌++◌, length, take, reverse, map, Option, None, Some, codes, count_by, take_while, ◌==◌, not, fold, slice_get}
+use Rattle.std.specs.Prelude.{ℕ, List, [], ◌∷◌, ◌++◌, length, map, Option, None, Some, codes, fold, slice_get}
 use Rattle.std.specs.List.{flat_map, enumerate_from}
 use Rattle.std.specs.Fmt.{decimal}
 use Rattle.call_cell.specs.Sites.{after_call, classes_at}
-use Rattle.first_program.specs.declared.numbered.Class.{Class}
+use Rattle.program.specs.declared.numbered.Class.{Class}
 use Rattle.dart_sites.specs.declared.report.SiteText.{SiteText}
 use Rattle.first_form.specs.declared.form.PrintStmt.{PrintStmt}
 use Rattle.first_form.specs.declared.form.Form.{Form}
 use Rattle.dart_sites.specs.declared.running.Ending.{Ending}
 use Rattle.dart_sites.specs.declared.running.Ending.TheVariants.{Done, OutOfTurns}
-use Rattle.dart_sites.specs.Places.{line_at, column_at, place_text}
+use Rattle.dart_sites.specs.Places.{place_text}
 use Rattle.dart_sites.specs.Numbering.{classes}
 use Rattle.dart_sites.specs.Entry.{EntryMeaning, entry_meaning}
 

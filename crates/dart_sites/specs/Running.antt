@@ -1,12 +1,19 @@
 -- What a piece of the walk did, told by the meaning of what it walked.
-use Rattle.std.specs.Prelude.{◌≡◌, ℕ, List, ◌++◌, [], replicate, Option, slice_get, None, Some}
-use Rattle.first_program.specs.declared.numbered.Numbered.{Numbered}
-use Rattle.first_program.specs.declared.numbered.Method.{Method}
+use Rattle.std.specs.Prelude.{◌≡◌, ℕ, ℤ, pos, List, ◌++◌, [], replicate, Option, slice_get, None, Some}
+use Rattle.program.specs.declared.body.Body.{Body}
+use Rattle.program.specs.declared.body.Body.TheVariants as body
+use Rattle.program.specs.declared.literal.Literal.{Literal}
+use Rattle.program.specs.declared.literal.Literal.TheVariants as literal
+use Rattle.program.specs.declared.numbered.Method.{Method}
+use Rattle.program.specs.declared.numbered.MethodBody.{MethodBody}
+use Rattle.program.specs.declared.numbered.MethodBody.TheVariants as does
+use Rattle.program.specs.declared.numbered.Numbered.{Numbered}
+use Rattle.program.specs.declared.numbered.Target.{Target}
+use Rattle.program.specs.declared.numbered.Target.TheVariants as target
+use Rattle.program.specs.Bodies as c
+use Rattle.program.specs.Bodies.{Exp, exp}
+use Rattle.call_cell.specs.Sites.{selector_of}
 use Rattle.dart_sites.specs.declared.running.PrintCall.{PrintCall}
-use Rattle.first_program.specs.Numbered.{selector_of}
-use Rattle.first_program.specs.declared.numbered.Body.TheVariants as body
-use Rattle.first_program.specs.declared.numbered.Target.{Target}
-use Rattle.first_program.specs.declared.numbered.Target.TheVariants as target
 use Rattle.dart_sites.specs.declared.running.Ending.{Ending}
 use Rattle.dart_sites.specs.declared.running.Running.{Running}
 use Rattle.dart_sites.specs.Meaning.{Act, counted, print_value}
@@ -19,14 +26,31 @@ pub record Did {C : Type 0} (After : C → List (ℕ × ℕ) → C → Type 0) (
   pub cells : After before (act old.turns).asked after
   pub ending : ended ≡ (act old.turns).ending
 
--- the number that a method answers
-abbrev pub number_of : Option Method → ℕ
-number_of None = 0
-number_of (Some m) = elim m.body [ body.Native n ↦ 0 | body.Number n ↦ n ]
+-- the number that a method answers: that of `=> number;`
 
-abbrev pub number_at : List Method → Target → ℕ
+abbrev pub number_in : Literal → ℤ
+number_in (literal.Int n) = n
+number_in _ = pos 0
+
+abbrev pub constant_in : Exp → ℤ
+constant_in (c.constant k) = number_in k
+constant_in _ = pos 0
+
+abbrev pub answer_in : Body → ℤ
+answer_in (body.Arrow e) = constant_in (exp e)
+answer_in (body.Block all) = pos 0
+
+abbrev pub code_answer : MethodBody → ℤ
+code_answer (does.Code b) = answer_in b
+code_answer _ = pos 0
+
+abbrev pub number_of : Option Method → ℤ
+number_of None = pos 0
+number_of (Some m) = code_answer m.body
+
+abbrev pub number_at : List Method → Target → ℤ
 number_at methods (target.Method m) = number_of (slice_get methods m.0)
-number_at methods (target.Nsm m) = 0
+number_at methods (target.Nsm m) = pos 0
 
 -- `print(C().m())` in a numbered program, with these targets
 abbrev pub print_act : Numbered → (ℕ → ℕ → Target) → ℕ → PrintCall → Act

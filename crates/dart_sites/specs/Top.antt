@@ -1,9 +1,15 @@
 -- What each status of the program says.
-use Rattle.std.specs.Prelude.{◌≡◌, ℕ, ◌≤◌, ◌<◌, Bool, List, length, take, Option, MatchOption, IsSomeAnd, codes, Some, None}
+use Rattle.std.specs.Prelude.{◌≡◌, ℕ, ◌≤◌, ◌<◌, Bool, true, false, List, [], ◌∷◌, length, take, Option, MatchOption, IsSomeAnd, codes, Some, None}
 use Rattle.std.specs.Io.KnownBytes.{Appends, IsAtEnd}
 use Rattle.dart_syntax.specs.Syntax.{Tree}
 use Rattle.first_form.specs.declared.form.Form.{Form}
 use Rattle.first_form.specs.Form.{form_of}
+use Rattle.dart_syntax.specs.declared.token.Span.{Span}
+use Rattle.static_rules.specs.declared.rule.Rule.{Rule}
+use Rattle.static_rules.specs.declared.rule.Limit.{Limit}
+use Rattle.static_rules.specs.Accepted as rules
+use Rattle.static_rules.specs.Accepted.{failing, exceeded, counts}
+use Rattle.dart_sites.specs.Refusals.{rule_line, limit_line, missing, entry_line, check_text}
 use Rattle.dart_sites.specs.Entry.{entry_meaning, is_done}
 use Rattle.dart_sites.specs.Report.{text_of_run}
 use Rattle.dart_sites.specs.declared.source.Refusal.{Refusal}
@@ -11,7 +17,7 @@ use Rattle.dart_sites.specs.Source.{IsSource, IsTreeOf, NoTree, IsRefused, refus
 use Rattle.dart_sites.specs.Outside.{HasWritten}
 use Rattle.dart_sites.specs.Words.{Asks}
 use Rattle.dart_sites.specs.declared.words.Request.{Request}
-use Rattle.dart_sites.specs.declared.words.Request.TheVariants.{Run}
+use Rattle.dart_sites.specs.declared.words.Request.TheVariants.{Check, Run}
 use Rattle.dart_sites.specs.declared.telling.Outcome.{Outcome}
 use Rattle.dart_sites.specs.declared.telling.Outcome.TheVariants as outcome
 use Rattle.dart_sites.specs.declared.status.Status.{Status}
@@ -19,10 +25,19 @@ use Rattle.dart_sites.specs.declared.status.Status.TheVariants as status
 
 -- ---- what a request says of the bytes that were read
 
+-- the text of `check` of a source: what it counts
+pub record CheckSays (input text : List ℕ) (all_done : Bool) : Type 0 where
+  pub tree : Tree
+  pub source : IsSource input tree
+  pub accepted : rules.IsAccepted tree
+  pub text_is : text ≡ check_text (counts tree)
+  pub done_is : all_done ≡ true
+
 -- the text of `run` of a source that is a program of the first form, and whether its entry was done
 pub record RunSays (turns : ℕ) (input text : List ℕ) (all_done : Bool) : Type 0 where
   pub tree : Tree
   pub source : IsSource input tree
+  pub accepted : rules.IsAccepted tree
   pub form : Form
   pub form_is : form_of tree ≡ Some form
   pub text_is : text ≡ text_of_run input form turns
@@ -30,26 +45,55 @@ pub record RunSays (turns : ℕ) (input text : List ℕ) (all_done : Bool) : Typ
 
 -- the text that a request defines for the bytes, and whether each of its entries was done
 abbrev pub Says : Request → List ℕ → List ℕ → Bool → Type 0
+Says Check input text all_done = CheckSays input text all_done
 Says (Run turns) input text all_done = RunSays turns input text all_done
 
--- the bytes are no source, and this line says why
+-- ---- why the bytes are refused, with this line
+
+-- they are no source
 pub record NoSource (input line : List ℕ) : Type 0 where
   pub no_tree : NoTree input
   pub why : Refusal
   pub refused : IsRefused input why
   pub line_is : line ≡ refusal_line input why
 
--- the bytes are a source, but no program of the first form
-pub record IsUnbuilt (input : List ℕ) : Type 0 where
+-- the entries that a request names
+abbrev pub entries : Request → List (List ℕ)
+entries Check = []
+entries (Run turns) = codes "main" ∷ []
+
+abbrev pub is_run : Request → Bool
+is_run Check = false
+is_run (Run turns) = true
+
+-- The tree breaks a rule; or it is accepted, and an entry that is named is none; or they all are, and the tree has a form that is not run yet.
+pub data WrongNames (request : Request) (tree : Tree) (input line : List ℕ) : Type 0 where
+  breaks : {rule : Rule} {at : Span} → failing tree ≡ Some (rule, at) → line ≡ rule_line input rule at → WrongNames request tree input line
+  no_entry : {name : List ℕ} → rules.IsAccepted tree → missing tree (entries request) ≡ Some name → line ≡ entry_line name → WrongNames request tree input line
+  unbuilt : rules.IsAccepted tree → missing tree (entries request) ≡ None → is_run request ≡ true → form_of tree ≡ None → line ≡ codes "refused: unbuilt\n" → WrongNames request tree input line
+
+-- they are a source, whose names are refused
+pub record NamesRefused (request : Request) (input line : List ℕ) : Type 0 where
   pub tree : Tree
   pub tree_of : IsTreeOf input tree
-  pub no_form : form_of tree ≡ None
+  pub wrong : WrongNames request tree input line
+
+-- they are a source that breaks no rule, and a count is over its limit
+pub record OverLimit (input line : List ℕ) : Type 0 where
+  pub tree : Tree
+  pub tree_of : IsTreeOf input tree
+  pub rules : failing tree ≡ None
+  pub what : Limit
+  pub count : ℕ
+  pub over : exceeded (counts tree) ≡ Some (what, count)
+  pub line_is : line ≡ limit_line what count
 
 -- what came of the bytes
 abbrev pub OutcomeSays : Request → List ℕ → Outcome → Type 0
 OutcomeSays request input (outcome.Told told) = Says request input told.text.items told.all_done
-OutcomeSays request input (outcome.Refused line) = NoSource input line.items
-OutcomeSays request input outcome.Unbuilt = IsUnbuilt input
+OutcomeSays request input (outcome.NoSource line) = NoSource input line.items
+OutcomeSays request input (outcome.WrongNames line) = NamesRefused request input line.items
+OutcomeSays request input (outcome.OverLimit line) = OverLimit input line.items
 OutcomeSays request input outcome.NoMemory = Unit {0}
 
 -- ---- what was written
@@ -82,7 +126,7 @@ pub record PartWritten (words : List (List ℕ)) (input : List ℕ) (left held h
 
 -- ---- refusals
 
--- the one line of a refusal, but for the syntax
+-- the one line of a refusal, but for those of the bytes
 abbrev pub line_of : Status → Option (List ℕ)
 line_of status.Done = None
 line_of status.EntryFault = None
@@ -90,7 +134,8 @@ line_of status.BadWords = Some (codes "refused: words\n")
 line_of status.ReadFault = Some (codes "fault: read\n")
 line_of status.TooLarge = Some (codes "refused: more than 1048576 bytes\n")
 line_of status.SyntaxRefused = None
-line_of status.NameRefused = Some (codes "refused: unbuilt\n")
+line_of status.NameRefused = None
+line_of status.LimitRefused = None
 line_of status.WriteFault = None
 line_of status.NoMemory = Some (codes "fault: memory\n")
 
@@ -101,22 +146,34 @@ LineWritten held holds before now line = (whole : Bool) × HasWritten held holds
 abbrev pub RefusalWritten : Status → Option (List ℕ) → Option (List ℕ) → ℕ → ℕ → Type 0
 RefusalWritten answer held holds before now = MatchOption (line_of answer) (Unit {0}) (LineWritten held holds before now)
 
--- the bytes are no source, they were read to their end, and the line that says why was written
-pub record SyntaxRefusal (input : List ℕ) (left held holds : Option (List ℕ)) (before now : ℕ) : Type 0 where
+-- the bytes were read to their end, and the line that says why they are refused was written
+pub record SourceRefused (why : List ℕ → List ℕ → Type 0) (input : List ℕ) (left held holds : Option (List ℕ)) (before now : ℕ) : Type 0 where
   pub line : List ℕ
-  pub no_source : NoSource input line
+  pub because : why input line
   pub read : IsAtEnd left
   pub written : LineWritten held holds before now line
 
+-- the same, of a request that the words are
+pub record RequestRefused (words : List (List ℕ)) (input : List ℕ) (left held holds : Option (List ℕ)) (before now : ℕ) : Type 0 where
+  pub request : Request
+  pub asks : Asks words request
+  pub refused : SourceRefused (NamesRefused request) input left held holds before now
+
 -- ---- completeness
 
--- the words are a request, and the source tells bytes that are accepted
+-- `check` asks no form, and `run` one that is built
+abbrev pub HasForm : Request → Tree → Type 0
+HasForm Check tree = Unit {0}
+HasForm (Run turns) tree = (form : Form) × (form_of tree ≡ Some form)
+
+-- the words are a request, and the source tells bytes that are accepted, with the entries that are named
 pub record IsAccepted (words : List (List ℕ)) (old : Option (List ℕ)) : Type 0 where
   pub request : Request
   pub asks : Asks words request
   pub tree : Tree
-  pub form : Form
-  pub form_is : form_of tree ≡ Some form
+  pub accepted : rules.IsAccepted tree
+  pub entries : missing tree (entries request) ≡ None
+  pub form : HasForm request tree
   pub source : IsSomeAnd old (λ input. IsSource input tree × length input ≤ 1048576)
 
 -- the answers to what is accepted, where no read and no write fails
@@ -143,5 +200,6 @@ code_of status.ReadFault = 3
 code_of status.TooLarge = 4
 code_of status.SyntaxRefused = 5
 code_of status.NameRefused = 6
+code_of status.LimitRefused = 7
 code_of status.WriteFault = 8
 code_of status.NoMemory = 9

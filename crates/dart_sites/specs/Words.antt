@@ -3,7 +3,7 @@ use Rattle.std.specs.Prelude.{◌≡◌, ℕ, ◌≤◌, List, [], ◌∷◌, Bo
 use Rattle.std.specs.List.{list_all}
 use Rattle.std.specs.declared.alloc.Global.{Global}
 use Rattle.dart_sites.specs.declared.words.Request.{Request}
-use Rattle.dart_sites.specs.declared.words.Request.TheVariants.{Run}
+use Rattle.dart_sites.specs.declared.words.Request.TheVariants.{Check, Run}
 
 abbrev pub is_digit_byte : ℕ → Bool
 is_digit_byte b = nat_le 48 b && nat_le b 57
@@ -27,6 +27,9 @@ pub record IsNumber (text : List ℕ) (n : ℕ) : Type 0 where
 abbrev pub texts : List (String Global) → List (List ℕ)
 texts words = map string_bytes words
 
+abbrev pub four : String Global → String Global → String Global → String Global → List (List ℕ)
+four a b c d = string_bytes a ∷ string_bytes b ∷ string_bytes c ∷ string_bytes d ∷ []
+
 -- run TURNS 1 main
 pub record AsksRun (words : List (List ℕ)) (turns : ℕ) : Type 0 where
   pub text : List ℕ
@@ -37,6 +40,7 @@ pub record AsksRun (words : List (List ℕ)) (turns : ℕ) : Type 0 where
 
 -- the words ask for this request
 abbrev pub Asks : List (List ℕ) → Request → Type 0
+Asks words Check = words ≡ codes "check" ∷ []
 Asks words (Run turns) = AsksRun words turns
 
 -- the words ask for nothing
@@ -45,6 +49,7 @@ NoRequest words = (r : Request) → Asks words r → ⊥
 
 -- how many workers a request names
 abbrev pub workers : Request → ℕ
+workers Check = 1
 workers (Run turns) = 1
 
 -- the words ask for a request with so many workers

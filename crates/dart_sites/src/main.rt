@@ -1,9 +1,11 @@
 //! `dart_sites`: runs programs in a profile of Dart, and reports the call sites of each run.
 #![tactic(auto)]
 
+mod calls;
 mod numbering;
 mod places;
 mod reading;
+mod refusals;
 mod report;
 mod running;
 mod source;

@@ -6,17 +6,21 @@ use crate::text::{push, push_number};
 use ds_base::NoMemory;
 use std::alloc::Global;
 
-fn line_at(source: &[u8], place: usize) -> u64
+/// The line of a byte place, from 1.
+pub fn line_at(source: &[u8], place: usize) -> u64
     requires { length source.now ≤ 1048576 }
-    ensures { result ≡ line_at source.now place }
+    ensures exact { result ≡ line_at source.now place }
+    ensures within { result ≤ 1048577 }
 {
     let front = &source[..place.min(source.len())];
     1 + front.iter().filter(|b| **b == b'\n').count() as u64
 }
 
-fn column_at(source: &[u8], place: usize) -> u64
+/// The column of a byte place, from 1.
+pub fn column_at(source: &[u8], place: usize) -> u64
     requires { length source.now ≤ 1048576 }
-    ensures { result ≡ column_at source.now place }
+    ensures exact { result ≡ column_at source.now place }
+    ensures within { result ≤ 1048577 }
 {
     let front = &source[..place.min(source.len())];
     1 + back_to_line_feed(front) as u64

@@ -11,7 +11,7 @@ use crate::text::{push, push_number};
 use call_cell::PlainCells;
 use ds_base::NoMemory;
 use first_form::{Form, PrintStmt};
-use first_program::{Class, ClassId, SiteId};
+use program::{Class, ClassId, SiteId};
 use sqlite_items::Items;
 use std::alloc::Global;
 

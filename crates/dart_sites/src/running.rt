@@ -1,15 +1,16 @@
 // Runs `main` of a program over any cells.
-ghost use Rattle.std.specs.Prelude.{◌≡◌, ◌<◌, ◌≤◌, ◌-◌, ◌+◌, ◌^◌, ◌++◌, ℕ, length, IfOk, All, slice_index, None};
-ghost use Rattle.first_program.specs.Numbered.{selector_of, IsConcrete};
-ghost use Rattle.first_program.specs.Lookup.{resolve};
-ghost use Rattle.std.specs.Fmt.{decimal};
-ghost use Rattle.dart_sites.specs.Running.{Did, number_at, print_act, at_start};
+ghost use Rattle.std.specs.Prelude.{◌≡◌, ◌<◌, ◌≤◌, ◌-◌, ◌+◌, ◌^◌, ◌++◌, ℕ, length, IfOk, All, slice_index, None, IsTrue};
+ghost use Rattle.std.specs.Fmt.{signed_decimal};
+ghost use Rattle.program.specs.Bodies.{exp};
+ghost use Rattle.program.specs.Parts.{is_concrete};
+ghost use Rattle.call_cell.specs.Sites.{selector_of};
+ghost use Rattle.dart_sites.specs.Running.{Did, number_in, constant_in, answer_in, code_answer, number_at, print_act, at_start};
 ghost use Rattle.dart_sites.specs.Meaning.{Part, ask, spend, emit, each, ◌▹◌};
 
 use call_cell::Cells;
 use ds_base::{NoMemory, Steps};
-use first_lookup::Linked;
-use first_program::{Body, ClassId, SiteId, Target};
+use method_lookup::Linked;
+use program::{Body, ClassId, Expression, Literal, MethodBody, SiteId, Target};
 use sqlite_items::Items;
 use std::alloc::Global;
 use std::sync::ledger::Ledger;
@@ -65,7 +66,7 @@ impl Running {
     ) -> Target
         requires made { C.fits cells.old linked.now }
         requires site { site.0 < length linked.now.program.sites }
-        requires concrete { IsConcrete linked.now.program.classes class.0 }
+        requires concrete { IsTrue (is_concrete linked.now.program.classes class.0) }
         requires counts { length self.old.calls ≡ length linked.now.program.sites }
         requires small { slice_index self.old.calls site.0 < 2 ^ 64 - 1 }
         ensures did { Did C.After (ask site.0 class.0) self.old self.new cells.old cells.new None }
@@ -83,16 +84,66 @@ impl Running {
     }
 }
 
+fn number_in(literal: &Literal) -> i64
+    ensures { result ≡ number_in literal.now }
+{
+    match literal {
+        Literal::Int(n) => *n,
+        Literal::Null | Literal::Bool(_) | Literal::Str(_) => 0,
+    }
+}
+
+fn constant_in(e: &Expression) -> i64
+    ensures { result ≡ constant_in (exp e.now) }
+{
+    match e {
+        Expression::Constant(literal) => number_in(literal),
+        Expression::This
+        | Expression::Local(_)
+        | Expression::Global(_)
+        | Expression::Str(_, _)
+        | Expression::Function(_, _)
+        | Expression::Print(_)
+        | Expression::Make(_, _)
+        | Expression::Above(_, _)
+        | Expression::List(_)
+        | Expression::Send(_, _, _)
+        | Expression::Chain(_, _)
+        | Expression::Deny(_)
+        | Expression::Is(_, _, _)
+        | Expression::Choice(_, _, _)
+        | Expression::Assign(_, _, _)
+        | Expression::Step(_, _, _)
+        | Expression::Throw(_) => 0,
+    }
+}
+
+fn answer_in(body: &Body) -> i64
+    ensures { result ≡ answer_in body.now }
+{
+    match body {
+        Body::Arrow(e) => constant_in(e),
+        Body::Block(_) => 0,
+    }
+}
+
+/// The number that a member answers.
+fn code_answer(body: &MethodBody) -> i64
+    ensures { result ≡ code_answer body.now }
+{
+    match body {
+        MethodBody::Code(body) => answer_in(body),
+        MethodBody::Native(_) | MethodBody::ReadField(_) | MethodBody::WriteField(_) => 0,
+    }
+}
+
 /// The number that a target answers.
-fn number_at(linked: &Linked, target: Target) -> u64
+fn number_at(linked: &Linked, target: Target) -> i64
     ensures { result ≡ number_at linked.now.program.methods target }
 {
     match target {
         Target::Method(member) => match linked.program().methods.get(member.0 as usize) {
-            Some(method) => match method.body {
-                Body::Native(_) => 0,
-                Body::Number(n) => n,
-            },
+            Some(method) => code_answer(&method.body),
             None => 0,
         },
         Target::Nsm(_) => 0,
@@ -112,8 +163,8 @@ fn run_print<C: Cells, L: Ledger>(
     requires made { C.fits cells.old linked.now }
     requires site { print.site.0 < length linked.now.program.sites }
     requires print_site { print_site.0 < length linked.now.program.sites }
-    requires concrete { IsConcrete linked.now.program.classes print.class.0 }
-    requires int { IsConcrete linked.now.program.classes 3 }
+    requires concrete { IsTrue (is_concrete linked.now.program.classes print.class.0) }
+    requires int { IsTrue (is_concrete linked.now.program.classes 3) }
     requires counts { length run.old.calls ≡ length linked.now.program.sites }
     requires small { (s : ℕ) → slice_index run.old.calls s < 2 ^ 64 - 2 }
     ensures did { IfOk result (λ ended. Did C.After (print_act linked.now.program (C.answers cells.old linked.now) print_site.0 print)
@@ -131,7 +182,7 @@ fn run_print<C: Cells, L: Ledger>(
         return Ok(Some(ending));
     }
     run.ask(linked, cells, print_site, INT, steps);
-    let line = decimal_line(alloc, number_at(linked, target))?;
+    let line = answer_line(alloc, linked, target)?;
     run.lines.push(line)?;
     Ok(None)
 }
@@ -148,8 +199,8 @@ fn run_prints<C: Cells, L: Ledger>(
     requires made { C.fits cells.old linked.now }
     requires sites { All (λ p. p.site.0 < length linked.now.program.sites) prints.now }
     requires print_site { print_site.0 < length linked.now.program.sites }
-    requires concrete { All (λ p. IsConcrete linked.now.program.classes p.class.0) prints.now }
-    requires int { IsConcrete linked.now.program.classes 3 }
+    requires concrete { All (λ p. IsTrue (is_concrete linked.now.program.classes p.class.0)) prints.now }
+    requires int { IsTrue (is_concrete linked.now.program.classes 3) }
     requires few { length prints.now ≤ 1000 }
     requires counts { length run.old.calls ≡ length linked.now.program.sites }
     requires zero { (s : ℕ) → slice_index run.old.calls s ≡ 0 }
@@ -165,11 +216,18 @@ fn run_prints<C: Cells, L: Ledger>(
     Ok(None)
 }
 
-fn decimal_line(alloc: Global, n: u64) -> Result<Items<u8>, NoMemory>
-    ensures { IfOk result (λ line. line ≡ decimal n) }
+fn decimal_line(alloc: Global, n: i64) -> Result<Items<u8>, NoMemory>
+    ensures { IfOk result (λ line. line ≡ signed_decimal n) }
 {
     let text = n.to_string(alloc)?;
     Ok(Items::from_vec(text.into_bytes()))
+}
+
+/// The line of the number that a target answers.
+fn answer_line(alloc: Global, linked: &Linked, target: Target) -> Result<Items<u8>, NoMemory>
+    ensures { IfOk result (λ line. line ≡ signed_decimal (number_at linked.now.program.methods target)) }
+{
+    decimal_line(alloc, number_at(linked, target))
 }
 
 /// What a run left, and how it ended, if it did before its end.
@@ -192,8 +250,8 @@ pub fn run_main<C: Cells, L: Ledger>(
     requires made { C.fits cells.old linked.now }
     requires sites { All (λ p. p.site.0 < length linked.now.program.sites) prints.now }
     requires print_site { print_site.0 < length linked.now.program.sites }
-    requires concrete { All (λ p. IsConcrete linked.now.program.classes p.class.0) prints.now }
-    requires int { IsConcrete linked.now.program.classes 3 }
+    requires concrete { All (λ p. IsTrue (is_concrete linked.now.program.classes p.class.0)) prints.now }
+    requires int { IsTrue (is_concrete linked.now.program.classes 3) }
     requires few { length prints.now ≤ 1000 }
     ensures did { IfOk result (λ e. Did C.After (spend ▹ each (print_act linked.now.program (C.answers cells.old linked.now) print_site.0) prints.now)
         (at_start turns (length linked.now.program.sites)) e.run cells.old cells.new e.ending) }

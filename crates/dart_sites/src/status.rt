@@ -17,8 +17,10 @@ pub enum Status {
     TooLarge,
     /// The bytes are no source of the language.
     SyntaxRefused,
-    /// The source has a form that is not run yet.
+    /// The source breaks a static rule, has no entry point of the name, or has a form that is not run yet.
     NameRefused,
+    /// A count of the source is over its limit.
+    LimitRefused,
     /// A write of the text failed.
     WriteFault,
     /// Memory was wanting.
@@ -38,6 +40,7 @@ impl Status {
             Status::TooLarge => 4,
             Status::SyntaxRefused => 5,
             Status::NameRefused => 6,
+            Status::LimitRefused => 7,
             Status::WriteFault => 8,
             Status::NoMemory => 9,
         }

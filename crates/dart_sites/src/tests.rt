@@ -99,6 +99,7 @@ fn refuses_words_and_reads_nothing(rt: HostRuntime) -> Result<(), Fail> {
         "run 1 17 main",
         "run 1 1 main main",
         "run 1 1 other",
+        "check check",
         "--help",
     ] {
         expect(
@@ -148,24 +149,56 @@ fn refuses_what_is_no_source(rt: HostRuntime) -> Result<(), Fail> {
 }
 
 #[test]
-fn refuses_other_forms(rt: HostRuntime) -> Result<(), Fail> {
-    for text in [
-        "",
-        "main() {}",
-        "class A { m() => 7; } main() { print(B().m()); }",
-        "class A { m() => 7; } main() { print(A().n()); }",
-        "class A { m() => 7; m() => 8; } main() { print(A().m()); }",
-        "class A { void A() => 7; } main() { print(A().A()); }",
-        "class A { length() => 7; } main() { print(A().length()); }",
-        "class A { m() => 0xffffffffffffffff; } main() { print(A().m()); }",
-        "class A { m(x) => 7; } main() { print(A().m()); }",
-        "class A { m() => 7; } main() { print(A().m(), 1); }",
-        "class A { m() => 7; } main() { print(A().m().m()); }",
-        "class A extends Object { m() => 7; } main() { print(A().m()); }",
-        "main() { print(A().m()); } class A { m() => 7; }",
+fn refuses_names_and_other_forms(rt: HostRuntime) -> Result<(), Fail> {
+    for (text, held) in [
+        ("", "refused: no entry point main\n"),
+        ("main() {}", "refused: unbuilt\n"),
+        (
+            "class A { m() => 7; } main() { print(B().m()); }",
+            "refused: UndefinedName at 1:38\n",
+        ),
+        (
+            "class A { m() => 7; } main() { print(A().n()); }",
+            "refused: unbuilt\n",
+        ),
+        (
+            "class A { m() => 7; m() => 8; } main() { print(A().m()); }",
+            "refused: DuplicateName at 1:21\n",
+        ),
+        (
+            "class A { void A() => 7; } main() { print(A().A()); }",
+            "refused: DuplicateName at 1:16\n",
+        ),
+        (
+            "class A { length() => 7; } main() { print(A().length()); }",
+            "refused: MixedName at 1:11\n",
+        ),
+        (
+            "class A { m() => 0xffffffffffffffff; } main() { print(A().m()); }",
+            "refused: unbuilt\n",
+        ),
+        (
+            "class A { m(x) => 7; } main() { print(A().m()); }",
+            "refused: unbuilt\n",
+        ),
+        (
+            "class A { m() => 7; } main() { print(A().m(), 1); }",
+            "refused: WrongArgumentsOfStatic at 1:32\n",
+        ),
+        (
+            "class A { m() => 7; } main() { print(A().m().m()); }",
+            "refused: unbuilt\n",
+        ),
+        (
+            "class A extends Object { m() => 7; } main() { print(A().m()); }",
+            "refused: unbuilt\n",
+        ),
+        (
+            "main() { print(A().m()); } class A { m() => 7; }",
+            "refused: unbuilt\n",
+        ),
     ] {
         let line = "run 100 1 main";
-        let held = b"refused: unbuilt\n";
         expect(
             &rt,
             line,
@@ -173,10 +206,26 @@ fn refuses_other_forms(rt: HostRuntime) -> Result<(), Fail> {
             &[],
             &[],
             Status::NameRefused,
-            held,
+            held.as_bytes(),
         )?;
     }
     Ok(())
+}
+
+/// What `check` writes where the source has nothing.
+const NOTHING: &[u8] = b"ok classes 7 methods 49 selectors 1 sites 2\n";
+
+#[test]
+fn checks_sources(rt: HostRuntime) -> Result<(), Fail> {
+    let first = FIRST.as_bytes();
+    let counts = b"ok classes 8 methods 50 selectors 2 sites 3\n";
+    expect(&rt, "check", first, &[], &[], Status::Done, counts)?;
+    expect(&rt, "check", b"", &[], &[], Status::Done, NOTHING)?;
+    let twice = b"main() {} main() {}";
+    let refused = b"refused: DuplicateName at 1:11\n";
+    expect(&rt, "check", twice, &[], &[], Status::NameRefused, refused)?;
+    let no_entry = "run 10 1 main";
+    expect(&rt, no_entry, b"", &[], &[0], Status::NameRefused, b"")
 }
 
 #[test]
@@ -195,15 +244,14 @@ fn reads_up_to_the_limit(rt: HostRuntime) -> Result<(), Fail> {
         too_large,
     )?;
     let spaces = vec![in alloc; b' '; 1_048_576]?;
-    let refused = b"refused: unbuilt\n";
     expect(
         &rt,
-        run,
+        "check",
         spaces.as_slice(),
         &[],
         &[],
-        Status::NameRefused,
-        refused,
+        Status::Done,
+        NOTHING,
     )
 }
 

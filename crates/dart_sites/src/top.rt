@@ -1,10 +1,10 @@
 // The program: from the words and a source to a text in a sink.
 ghost use Rattle.std.specs.Prelude.{◌≡◌, ◌↔◌, ◌≤◌, IfSome, true, false};
-ghost use Rattle.std.specs.Io.KnownBytes.{Appends, IsAtEnd};
+ghost use Rattle.std.specs.Io.KnownBytes.{Appends};
 ghost use Rattle.ds_base.specs.Outside.{Rose};
 ghost use Rattle.dart_sites.specs.Outside.{ReadTooMuch, ReadWithin};
 ghost use Rattle.dart_sites.specs.Words.{NoRequest, texts};
-ghost use Rattle.dart_sites.specs.Top.{WholeWritten, PartWritten, CutShort, SyntaxRefusal, IsUnbuilt, LineWritten, RefusalWritten, IsAccepted, IsRunAnswer, IsFinish};
+ghost use Rattle.dart_sites.specs.Top.{WholeWritten, PartWritten, CutShort, NoSource, OverLimit, SourceRefused, RequestRefused, LineWritten, RefusalWritten, IsAccepted, IsRunAnswer, IsFinish};
 
 use crate::reading::{Input, read_all};
 use crate::status::Status;
@@ -32,12 +32,13 @@ pub fn dart_sites_one<S: Source, K: Sink>(
     ensures untouched { result ≡ Status.BadWords → source.new ≡ source.old }
     ensures read_fault { result ≡ Status.ReadFault → Rose (S.faults source.old) (S.faults source.new) }
     ensures too_large { result ≡ Status.TooLarge → ReadTooMuch (S.rest source.old) (S.rest source.new) }
-    ensures no_source { result ≡ Status.SyntaxRefused → IfSome (S.rest source.old) (λ input. SyntaxRefusal input (S.rest source.new) (K.written sink.old) (K.written sink.new) (K.faults sink.old) (K.faults sink.new)) }
-    ensures unbuilt { result ≡ Status.NameRefused → IfSome (S.rest source.old) (λ input. IsUnbuilt input × IsAtEnd (S.rest source.new)) }
+    ensures no_source { result ≡ Status.SyntaxRefused → IfSome (S.rest source.old) (λ input. SourceRefused NoSource input (S.rest source.new) (K.written sink.old) (K.written sink.new) (K.faults sink.old) (K.faults sink.new)) }
+    ensures names { result ≡ Status.NameRefused → IfSome (S.rest source.old) (λ input. RequestRefused (texts words.now) input (S.rest source.new) (K.written sink.old) (K.written sink.new) (K.faults sink.old) (K.faults sink.new)) }
+    ensures limits { result ≡ Status.LimitRefused → IfSome (S.rest source.old) (λ input. SourceRefused OverLimit input (S.rest source.new) (K.written sink.old) (K.written sink.new) (K.faults sink.old) (K.faults sink.new)) }
     ensures write_fault { result ≡ Status.WriteFault → Rose (K.faults sink.old) (K.faults sink.new) }
     ensures cut_short { result ≡ Status.WriteFault → IfSome (S.rest source.old) (λ input. PartWritten (texts words.now) input (S.rest source.new) (K.written sink.old) (K.written sink.new)) }
 
-    // A refusal writes its line and nothing else, or a proper part of it where the sink fails; the one for the syntax is above. At most one byte more than the limit is read.
+    // A refusal writes its line and nothing else, or a proper part of it where the sink fails; those of the bytes are above. At most one byte more than the limit is read.
     ensures refusal { RefusalWritten result (K.written sink.old) (K.written sink.new) (K.faults sink.old) (K.faults sink.new) }
     ensures bounded { ReadWithin (S.rest source.old) (S.rest source.new) }
 
@@ -57,8 +58,9 @@ pub fn dart_sites_one<S: Source, K: Sink>(
         ),
         Input::Bytes(bytes) => match tell(alloc, request, bytes.as_slice()) {
             Outcome::NoMemory => refuse(sink, b"fault: memory\n", Status::NoMemory),
-            Outcome::Refused(line) => refuse(sink, line.as_slice(), Status::SyntaxRefused),
-            Outcome::Unbuilt => refuse(sink, b"refused: unbuilt\n", Status::NameRefused),
+            Outcome::NoSource(line) => refuse(sink, line.as_slice(), Status::SyntaxRefused),
+            Outcome::WrongNames(line) => refuse(sink, line.as_slice(), Status::NameRefused),
+            Outcome::OverLimit(line) => refuse(sink, line.as_slice(), Status::LimitRefused),
             Outcome::Told(told) => finish(sink, &told),
         },
     }
@@ -83,12 +85,13 @@ pub fn dart_sites_main<R: Threads + Sync, S: Source, K: Sink, G: Gate>(
     ensures untouched { result ≡ Status.BadWords → source.new ≡ source.old }
     ensures read_fault { result ≡ Status.ReadFault → Rose (S.faults source.old) (S.faults source.new) }
     ensures too_large { result ≡ Status.TooLarge → ReadTooMuch (S.rest source.old) (S.rest source.new) }
-    ensures no_source { result ≡ Status.SyntaxRefused → IfSome (S.rest source.old) (λ input. SyntaxRefusal input (S.rest source.new) (K.written sink.old) (K.written sink.new) (K.faults sink.old) (K.faults sink.new)) }
-    ensures unbuilt { result ≡ Status.NameRefused → IfSome (S.rest source.old) (λ input. IsUnbuilt input × IsAtEnd (S.rest source.new)) }
+    ensures no_source { result ≡ Status.SyntaxRefused → IfSome (S.rest source.old) (λ input. SourceRefused NoSource input (S.rest source.new) (K.written sink.old) (K.written sink.new) (K.faults sink.old) (K.faults sink.new)) }
+    ensures names { result ≡ Status.NameRefused → IfSome (S.rest source.old) (λ input. RequestRefused (texts words.now) input (S.rest source.new) (K.written sink.old) (K.written sink.new) (K.faults sink.old) (K.faults sink.new)) }
+    ensures limits { result ≡ Status.LimitRefused → IfSome (S.rest source.old) (λ input. SourceRefused OverLimit input (S.rest source.new) (K.written sink.old) (K.written sink.new) (K.faults sink.old) (K.faults sink.new)) }
     ensures write_fault { result ≡ Status.WriteFault → Rose (K.faults sink.old) (K.faults sink.new) }
     ensures cut_short { result ≡ Status.WriteFault → IfSome (S.rest source.old) (λ input. PartWritten (texts words.now) input (S.rest source.new) (K.written sink.old) (K.written sink.new)) }
 
-    // A refusal writes its line and nothing else, or a proper part of it where the sink fails; the one for the syntax is above. At most one byte more than the limit is read.
+    // A refusal writes its line and nothing else, or a proper part of it where the sink fails; those of the bytes are above. At most one byte more than the limit is read.
     ensures refusal { RefusalWritten result (K.written sink.old) (K.written sink.new) (K.faults sink.old) (K.faults sink.new) }
     ensures bounded { ReadWithin (S.rest source.old) (S.rest source.new) }
 

@@ -1,12 +1,14 @@
 // What the words of the command line ask for.
-ghost use Rattle.std.specs.Prelude.{◌≡◌, ◌≤◌, ◌<◌, ◌-◌, ◌^◌, ℕ, MatchOption, min, true};
-ghost use Rattle.dart_sites.specs.Words.{Asks, AsksWorkers, NoRequest, IsNumber, is_plain, is_digit_byte, digits_value, texts};
+ghost use Rattle.std.specs.Prelude.{◌≡◌, ◌≤◌, ◌<◌, ◌-◌, ◌^◌, ℕ, ◌∷◌, [], MatchOption, min, true, string_bytes};
+ghost use Rattle.dart_sites.specs.Words.{Asks, AsksWorkers, NoRequest, IsNumber, is_plain, is_digit_byte, digits_value, texts, four};
 ghost use Rattle.std.specs.List.{list_all};
 ghost use Rattle.dart_sites.specs.declared.words.Request.{Request};
 
 /// What the words ask for.
 #[derive(Clone, Copy, Debug, PartialEq, Eq)]
 pub enum Request {
+    /// `check`: what the source counts.
+    Check,
     /// `run TURNS 1 main`: the entry `main`, with 1 to 1,000,000,000 turns.
     Run { turns: u64 },
 }
@@ -59,13 +61,21 @@ fn is_plain(text: &[u8]) -> bool
     }
 }
 
-/// The request of the words.
-pub fn read_request(words: &[String]) -> Option<Request>
-    ensures { MatchOption result (NoRequest (texts words.now)) (λ r. Asks (texts words.now) r) }
+/// The request of a command that stands alone.
+fn read_check(command: &String) -> Option<Request>
+    ensures { MatchOption result (NoRequest (string_bytes command.now ∷ [])) (λ r. Asks (string_bytes command.now ∷ []) r) }
 {
-    let [command, turns, workers, entry] = words else {
-        return None;
-    };
+    if command.as_str() == "check" {
+        Some(Request::Check)
+    } else {
+        None
+    }
+}
+
+/// The request of a command with turns, workers and one entry.
+fn read_run(command: &String, turns: &String, workers: &String, entry: &String) -> Option<Request>
+    ensures { MatchOption result (NoRequest (four command.now turns.now workers.now entry.now)) (λ r. Asks (four command.now turns.now workers.now entry.now) r) }
+{
     if command.as_str() != "run" || workers.as_str() != "1" || entry.as_str() != "main" {
         return None;
     }
@@ -76,12 +86,23 @@ pub fn read_request(words: &[String]) -> Option<Request>
     Some(Request::Run { turns })
 }
 
+/// The request of the words.
+pub fn read_request(words: &[String]) -> Option<Request>
+    ensures { MatchOption result (NoRequest (texts words.now)) (λ r. Asks (texts words.now) r) }
+{
+    match words {
+        [command] => read_check(command),
+        [command, turns, workers, entry] => read_run(command, turns, workers, entry),
+        _ => None,
+    }
+}
+
 /// The number of workers that the words ask for; none exactly where they are no request.
 pub fn workers_of(words: &[String]) -> Option<u32>
     ensures { MatchOption result (NoRequest (texts words.now)) (λ count. AsksWorkers (texts words.now) count) }
 {
     match read_request(words) {
-        Some(Request::Run { .. }) => Some(1),
+        Some(Request::Check | Request::Run { .. }) => Some(1),
         None => None,
     }
 }

@@ -1,11 +1,10 @@
 -- Lists of parts, as a tree holds them.
-use Rattle.std.proofs.Common.{◌≡◌, ◌≢◌, ℕ, ◌==◌, List, [], ◌∷◌, length, map, get_or, Some, None, refl, arith}
+use Rattle.std.proofs.Common.{◌≡◌, ◌≢◌, ℕ, ◌==◌, List, [], ◌∷◌, length, map, get_or, None, refl, arith}
 use Rattle.std.proofs.lemmas.Bool.Decides.{nat_tests}
 use Rattle.dart_syntax.specs.declared.tree.Name.{Name}
 use Rattle.dart_syntax.specs.declared.tree.Param.{Param}
 use Rattle.dart_syntax.specs.declared.tree.Expr.{Expr}
 use Rattle.dart_syntax.specs.declared.tree.Selector.{Selector}
-use Rattle.dart_syntax.specs.Syntax as tree
 use Rattle.dart_syntax.specs.Syntax.{exps, selectors}
 use Rattle.dart_syntax.specs.View.{exp, selector, param}
 use Rattle.first_form.specs.Form.{no_names}

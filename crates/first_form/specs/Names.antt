@@ -1,5 +1,5 @@
 -- The names that a program of the form may use.
-use Rattle.std.specs.Prelude.{◌≡◌, ℕ, List, [], ◌∷◌, Bool, true, false, ◌&&◌, ◌||◌, not, codes, length, nat_le, ◌≤◌, Option, Some, None, is_some, if◌then◌else◌}
+use Rattle.std.specs.Prelude.{◌≡◌, ℕ, ℤ, List, [], ◌∷◌, Bool, true, false, ◌&&◌, ◌||◌, not, codes, length, nat_lt, nat_le, ◌≤◌, Option, Some, None, is_some, if◌then◌else◌}
 use Rattle.std.specs.List.{list_all, list_any}
 use Rattle.std.specs.Str.{bytes_eq}
 use Rattle.first_form.specs.declared.form.MethodDecl.{MethodDecl}
@@ -26,13 +26,17 @@ unfoldable pub is_taken : List ℕ → Bool
 is_taken name = is_one_of built_in_classes name || (is_one_of built_in_members name || is_one_of functions name)
 
 -- the method of this name answers this
-abbrev pub value_of : List MethodDecl → List ℕ → Option ℕ
+abbrev pub value_of : List MethodDecl → List ℕ → Option ℤ
 value_of [] name = None
 value_of (m ∷ methods) name = if bytes_eq m.name name then Some m.value else value_of methods name
 
+-- all bytes are below 128, as in each name of a source
+abbrev pub is_ascii : List ℕ → Bool
+is_ascii name = list_all (λ b. nat_lt b 128) name
+
 -- a method may have its name: it is not taken, and not that of the class
 abbrev pub is_free : List ℕ → MethodDecl → Bool
-is_free class m = not (is_taken m.name) && not (bytes_eq m.name class)
+is_free class m = is_ascii m.name && (not (is_taken m.name) && not (bytes_eq m.name class))
 
 -- no two methods have one name
 abbrev pub are_distinct : List MethodDecl → Bool
@@ -46,11 +50,12 @@ is_call methods p = is_some (value_of methods p.method)
 -- the class and its methods have names of their own, each statement calls a method, and there are not too many of either
 unfoldable pub is_named : Form → Bool
 is_named f =
-    not (is_taken f.class) && (list_all (is_free f.class) f.methods && (are_distinct f.methods && (list_all (is_call f.methods) f.prints
-    && (nat_le (length f.methods) 1000 && nat_le (length f.prints) 1000))))
+    is_ascii f.class && (not (is_taken f.class) && (list_all (is_free f.class) f.methods && (are_distinct f.methods && (list_all (is_call f.methods) f.prints
+    && (nat_le (length f.methods) 1000 && nat_le (length f.prints) 1000)))))
 
 -- the same, part by part
 pub record IsNamed (f : Form) : Type 0 where
+  pub text : is_ascii f.class ≡ true
   pub class : is_taken f.class ≡ false
   pub methods : list_all (is_free f.class) f.methods ≡ true
   pub distinct : are_distinct f.methods ≡ true

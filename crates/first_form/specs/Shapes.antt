@@ -1,5 +1,5 @@
 -- The parts of trees that the form knows.
-use Rattle.std.specs.Prelude.{ℕ, ℤ, pos, negsuc, List, [], ◌∷◌, Bool, true, false, codes, Option, Some, None, option_map, option_and_then, if◌then◌else◌}
+use Rattle.std.specs.Prelude.{ℕ, ℤ, pos, negsuc, List, [], ◌∷◌, Bool, true, false, codes, Option, Some, None, option_map, if◌then◌else◌}
 use Rattle.std.specs.Str.{bytes_eq}
 use Rattle.dart_syntax.specs.declared.tree.Name.{Name}
 use Rattle.dart_syntax.specs.Syntax as tree
@@ -17,21 +17,21 @@ no_params (p ∷ more) = false
 
 -- ---- a method
 
-abbrev pub natural : ℤ → Option ℕ
-natural (pos n) = Some n
+abbrev pub natural : ℤ → Option ℤ
+natural (pos n) = Some (pos n)
 natural (negsuc n) = None
 
 -- an integer that is not negative
-abbrev pub number_of : Exp → Option ℕ
+abbrev pub number_of : Exp → Option ℤ
 number_of (tree.int n at) = natural n
 number_of _ = None
 
 -- `=> value;`
-abbrev pub answer_of : Option Body → Option ℕ
+abbrev pub answer_of : Option Body → Option ℤ
 answer_of (Some (tree.arrow x)) = number_of x
 answer_of _ = None
 
-abbrev pub method_named : Name → ℕ → MethodDecl
+abbrev pub method_named : Name → ℤ → MethodDecl
 method_named n v = record { name = n.text; value = v }
 
 -- `name() => value;`

@@ -5,7 +5,7 @@ use sqlite_items::Items;
 #[derive(Drop)]
 pub struct MethodDecl {
     pub name: Items<u8>,
-    pub value: u64,
+    pub value: i64,
 }
 
 /// `print(C().method());` for the one class, and the byte place of the method's name.

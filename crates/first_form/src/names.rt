@@ -1,8 +1,8 @@
 // Whether the names of a program are such as the form allows.
-ghost use Rattle.std.specs.Prelude.{◌≡◌};
+ghost use Rattle.std.specs.Prelude.{◌≡◌, nat_lt};
 ghost use Rattle.std.specs.List.{list_all, list_any};
 ghost use Rattle.std.specs.Str.{bytes_eq};
-ghost use Rattle.first_form.specs.Names.{built_in_classes, built_in_members, functions, is_one_of, is_taken, value_of, is_free, is_call, are_distinct, is_named};
+ghost use Rattle.first_form.specs.Names.{built_in_classes, built_in_members, functions, is_one_of, is_taken, value_of, is_ascii, is_free, is_call, are_distinct, is_named};
 
 use crate::form::{Form, MethodDecl, PrintStmt};
 
@@ -74,7 +74,7 @@ fn is_taken(name: &[u8]) -> bool
 }
 
 /// What the method of this name answers.
-fn value_of(methods: &[MethodDecl], name: &[u8]) -> Option<u64>
+fn value_of(methods: &[MethodDecl], name: &[u8]) -> Option<i64>
     ensures { result ≡ value_of methods.now name.now }
 {
     for method in methods {
@@ -85,11 +85,18 @@ fn value_of(methods: &[MethodDecl], name: &[u8]) -> Option<u64>
     None
 }
 
+/// A name of a source is ASCII; so are then the names of a program.
+fn is_ascii(name: &[u8]) -> bool
+    ensures { result ≡ is_ascii name.now }
+{
+    name.iter().all(|b| *b < 128)
+}
+
 fn is_free(class: &[u8], method: &MethodDecl) -> bool
     ensures { result ≡ is_free class.now method.now }
 {
     let name = method.name.as_slice();
-    !is_taken(name) && name != class
+    is_ascii(name) && !is_taken(name) && name != class
 }
 
 fn are_free(class: &[u8], methods: &[MethodDecl]) -> bool
@@ -129,7 +136,7 @@ pub fn is_named(form: &Form) -> bool
     let class = form.class.as_slice();
     let methods = form.methods.as_slice();
     let prints = form.prints.as_slice();
-    if is_taken(class) || methods.len() > MOST || prints.len() > MOST {
+    if !is_ascii(class) || is_taken(class) || methods.len() > MOST || prints.len() > MOST {
         return false;
     }
     are_free(class, methods) && are_distinct(methods) && are_calls(methods, prints)

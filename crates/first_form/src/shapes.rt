@@ -24,13 +24,13 @@ pub fn no_params(params: &[Param]) -> bool
     params.len() == 0
 }
 
-fn natural(n: i64) -> Option<u64>
+fn natural(n: i64) -> Option<i64>
     ensures { result ≡ natural n }
 {
-    if n >= 0 { Some(n as u64) } else { None }
+    if n >= 0 { Some(n) } else { None }
 }
 
-fn number(e: &Expr) -> Option<u64>
+fn number(e: &Expr) -> Option<i64>
     ensures { result ≡ number_of (exp e.now) }
 {
     match e {
@@ -58,7 +58,7 @@ fn number(e: &Expr) -> Option<u64>
     }
 }
 
-fn answer(found: &Option<Body>) -> Option<u64>
+fn answer(found: &Option<Body>) -> Option<i64>
     ensures { result ≡ answer_of (option_map body found.now) }
 {
     match found {

@@ -1,4 +1,4 @@
-use Rattle.std.proofs.Common.{◌≡◌, sym, subst}
+use Rattle.std.proofs.Common.{sym, subst}
 use Rattle.dart_syntax.specs.Derivation.{Derives}
 use Rattle.dart_sites.specs.Source as source
 use Rattle.dart_sites.proofs.source.parsed.Goals as goal

@@ -1,4 +1,4 @@
-use Rattle.std.proofs.Common.{◌≡◌, ◌≢◌, Some, None, sym, ap, ◌∙◌}
+use Rattle.std.proofs.Common.{◌≢◌, Some, None, sym, ap, ◌∙◌}
 use Rattle.dart_lexer.specs.declared.error.LexError.TheVariants as error
 use Rattle.dart_sites.specs.Source as source
 use Rattle.dart_sites.specs.Source.{refusal_of}

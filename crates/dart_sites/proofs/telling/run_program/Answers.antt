@@ -4,7 +4,7 @@ use Rattle.call_cell.specs.Sites.{state_at}
 use Rattle.dart_sites.specs.Entry.{is_done}
 use Rattle.dart_sites.specs.Report.{entry_part, site_lines, sites_of}
 use Rattle.dart_sites.proofs.Reports.{length-body}
-use Rattle.dart_sites.proofs.TreeRuns.{sites_are, few, sites_low, all_concrete, did_from, told_ending, told_calls, told_text}
+use Rattle.dart_sites.proofs.TreeRuns.{sites_are, few, sites_low, all_concrete, int_concrete, did_from, told_ending, told_calls, told_text}
 use Rattle.dart_sites.proofs.telling.run_program.Goals as goal
 
 pub run_main-requires-clause-sites : goal.run_main-requires-clause-sites
@@ -15,6 +15,9 @@ run_main-requires-clause-print_site g c = omega (arith, sites_are c.args.source.
 
 pub run_main-requires-clause-concrete : goal.run_main-requires-clause-concrete
 run_main-requires-clause-concrete g c = all_concrete c.args.source.now c.args.form.now c.args.linked.now.program c.requires.program c.requires.named c.args.body.now c.requires.body
+
+pub run_main-requires-clause-int : goal.run_main-requires-clause-int
+run_main-requires-clause-int g c = int_concrete c.args.source.now c.args.form.now c.args.linked.now.program c.requires.program c.requires.named
 
 pub run_main-requires-clause-few : goal.run_main-requires-clause-few
 run_main-requires-clause-few g c = omega (arith, few c.args.source.now c.args.form.now c.args.linked.now.program c.requires.program c.requires.named, ap length c.requires.body, length-body 0 c.args.form.now.prints)

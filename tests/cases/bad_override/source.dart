@@ -1,0 +1,2 @@
+class A { m(x) => x; }
+class B extends A { m() => 1; }

@@ -1,0 +1,2 @@
+class A { m() => x; }
+class B extends C {}
