@@ -154,12 +154,12 @@ named_once : (c : ClassDecl) (qs : List Text) → NoTwice qs → all_nodes (for_
 named_once c [] once = omega arith
 named_once c (q ∷ qs) once = elim (same_or_other c.name.text q) [
   | inl e ↦
-    let gone = never_named c qs (λ m. once.0 (subst (λ z. In z qs) e m)) in
-    let here : for_name c q ≡ class_constructor_nodes c = rw (subst (λ z. bytes_eq c.name.text z ≡ true) e (text_self c.name.text)) refl in
-    omega (arith, gone, here)
+      let gone = never_named c qs (λ m. once.0 (subst (λ z. In z qs) e m)) in
+      let here : for_name c q ≡ class_constructor_nodes c = rw (subst (λ z. bytes_eq c.name.text z ≡ true) e (text_self c.name.text)) refl in
+      omega (arith, gone, here)
   | inr n ↦
-    let here : for_name c q ≡ 0 = rw (other_text c.name.text q n) refl in
-    omega (arith, here, named_once c qs once.1)
+      let here : for_name c q ≡ 0 = rw (other_text c.name.text q n) refl in
+      omega (arith, here, named_once c qs once.1)
 ]
 
 each_split : (f g h : Text → ℕ) → ((q : Text) → f q ≤ g q + h q) → (qs : List Text) → all_nodes f qs ≤ all_nodes g qs + all_nodes h qs
@@ -173,9 +173,12 @@ none_named (q ∷ qs) = omega (arith, none_named qs)
 constructors_sized : (cs : List ClassDecl) (qs : List Text) → NoTwice qs → all_nodes (λ q. some_class_nodes (first_named cs q)) qs ≤ all_nodes class_constructor_nodes cs
 constructors_sized [] qs once = omega (arith, none_named qs)
 constructors_sized (c ∷ more) qs once =
-    omega (arith,
+    omega (
+      arith,
       each_split (λ q. some_class_nodes (first_named (c ∷ more) q)) (for_name c) (λ q. some_class_nodes (first_named more q)) (λ q. named_or_later c more q (bytes_eq c.name.text q) refl) qs,
-      named_once c qs once, constructors_sized more qs once)
+      named_once c qs once,
+      constructors_sized more qs once,
+    )
 
 -- ---- the parts of a tree
 
@@ -205,27 +208,44 @@ module _ (text : Text) (tree : Tree) (p : Parts) (is : IsNumberedOf text tree p)
   methods_sized : sum_by method_size p.methods ≤ 64 + all_nodes class_code_nodes (classes.classes tree)
   methods_sized =
       let same = ap (λ (f : Form). all_nodes method_form_size f.methods) is.form in
-      omega (arith, summed method_size p.methods, sum_same method_size (λ m. method_form_size (method_form m)) method_sized p.methods,
-        sum_of_map method_form_size method_form p.methods, same,
-        sum_of_both method_form_size (map method_form built_in_members) (flat_map (numbered_members tree) (classes.classes tree)), built_in_sized, members_sized tree (classes.classes tree))
+      omega (
+        arith,
+        summed method_size p.methods,
+        sum_same method_size (λ m. method_form_size (method_form m)) method_sized p.methods,
+        sum_of_map method_form_size method_form p.methods,
+        same,
+        sum_of_both method_form_size (map method_form built_in_members) (flat_map (numbered_members tree) (classes.classes tree)),
+        built_in_sized,
+        members_sized tree (classes.classes tree),
+      )
 
   functions_sized : sum_by function_size p.functions ≤ all_nodes function_nodes (functions tree)
   functions_sized =
       let same = ap (λ (f : Form). all_nodes function_form_size f.functions) is.form in
-      omega (arith, summed function_size p.functions, sum_same function_size (λ f. function_form_size (function_form f)) function_sized p.functions,
-        sum_of_map function_form_size function_form p.functions, same,
+      omega (
+        arith,
+        summed function_size p.functions,
+        sum_same function_size (λ f. function_form_size (function_form f)) function_sized p.functions,
+        sum_of_map function_form_size function_form p.functions,
+        same,
         sum_of_map function_form_size (numbered_function tree) (functions tree),
-        sum_no_more (λ f. function_form_size (numbered_function tree f)) function_nodes (function_form_sized tree) (functions tree))
+        sum_no_more (λ f. function_form_size (numbered_function tree f)) function_nodes (function_form_sized tree) (functions tree),
+      )
 
   classes_sized : NoTwice (class_names tree) → sum_by (λ (k : Class). constructor_size k.constructor) p.classes ≤ all_nodes class_constructor_nodes (classes.classes tree)
   classes_sized once =
       let form = λ (k : ClassForm). constructor_form_size k.constructor in
       let same = ap (λ (f : Form). all_nodes form f.classes) is.form in
-      omega (arith, summed (λ (k : Class). constructor_size k.constructor) p.classes,
+      omega (
+        arith,
+        summed (λ (k : Class). constructor_size k.constructor) p.classes,
         sum_same (λ (k : Class). constructor_size k.constructor) (λ k. form (class_form k)) (λ k. constructor_sized k.constructor) p.classes,
-        sum_of_map form class_form p.classes, same, sum_of_map form (numbered_class tree) (class_names tree),
+        sum_of_map form class_form p.classes,
+        same,
+        sum_of_map form (numbered_class tree) (class_names tree),
         sum_no_more (λ x. form (numbered_class tree x)) (λ x. some_class_nodes (class_named tree x)) (λ x. class_constructor_sized tree x (class_named tree x)) (class_names tree),
-        constructors_sized (classes.classes tree) (class_names tree) once)
+        constructors_sized (classes.classes tree) (class_names tree) once,
+      )
 
   globals_sized : length p.globals ≡ length (variables tree)
   globals_sized =

@@ -91,10 +91,11 @@ module _ (text : Text) (tree : Tree) (p : Parts) (is : IsNumberedOf text tree p)
       → ReachesAbove tree p (Some c.name.text) (Some (class_number tree c.name.text)) sel
   reaches c named sel m member takes =
       let inside = among c named in
-      let r = super_there text tree p keeps is sel.kind sel.name (site_of tree) c m inside member in
-      (finds_above text tree p keeps is (site_of tree) c m sel inside member takes,
+      let r = super_there text tree p keeps is sel.kind sel.name (site_of tree) c m inside member in (
+        finds_above text tree p keeps is (site_of tree) c m sel inside member takes,
         subst (IsRole p (Some (class_number tree c.name.text)) sel.kind) (sym r.1) r.3,
-        super_accepts text tree p keeps is sel.kind sel.name (site_of tree) c m sel.count inside member takes)
+        super_accepts text tree p keeps is sel.kind sel.name (site_of tree) c m sel.count inside member takes,
+      )
 
   tables_are : Tables tree p
   tables_are = record {
