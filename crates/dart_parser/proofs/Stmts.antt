@@ -16,7 +16,7 @@ use Rattle.dart_syntax.specs.Grammar.{Reading, Many, none, more, Valued, Initial
 use Rattle.dart_expr.specs.Input.{Parser, Outcome, is_sign, and_then, many_from, same, sees, sees_keyword, after, expect, span, next, is_end, is_end_kind}
 use Rattle.dart_expr.specs.Model.{name, expr}
 use Rattle.dart_parser.specs.Statements as m
-use Rattle.dart_parser.specs.Statements.{item, ended, valued, initial, block, variable, constant, local, first_by, first, comma_item, comma_items, last, test, branches, repeated, do_repeated, counted, counted_by, broken, continued, returned, statement_by, statement, stmt}
+use Rattle.dart_parser.specs.Statements.{item, ended, valued, initial, block, variable, constant, local, first_by, first, comma_item, comma_items, last, condition, branches, repeated, do_repeated, counted, counted_by, broken, continued, returned, statement_by, statement, stmt}
 use Rattle.dart_expr.proofs.Facts.{sees_it, after_it, after_not, after_seen, expect_it, seen, expect_ok, sees_keyword_it, after_keyword_it, after_keyword_not, seen_keyword, after_keyword_seen, same_ok, split, via, some_not_none, none_not_some}
 use Rattle.dart_expr.specs.Firsts.{kind_starts}
 use Rattle.dart_expr.proofs.Good.{Good, starts_other, grip, starts}
@@ -304,7 +304,7 @@ module _ (I : Reading Sta) (W : Reading Exp) (i : Parser Sta) (w : Parser Exp) (
   runs (t ∷ ts) h = run_kind t.kind (t ∷ ts) h
 
   statement_complete : {ts rest : Tokens} {x : Sta} → Statement I W ts x rest → statement i w ts ≡ Ok (x, rest)
-  unfolding statement block branches repeated do_repeated counted counted_by broken continued returned test grip
+  unfolding statement block branches repeated do_repeated counted counted_by broken continued returned condition grip
   statement_complete (gr.Statement.block {a} {b} {xs} {ts} {rest} ds) =
       rw (many_complete I (item (sees s.BraceClose) i) _ _ braces (length ts) [] ds (sees_it s.BraceClose b rest) (omega (arith, many_shorter I (item (sees s.BraceClose) i) _ _ braces ds)), expect_it s.BraceClose b rest)
   statement_complete (gr.Statement.local d) = rw (local_statement d, locals_complete d)
@@ -408,19 +408,19 @@ module _ (I : Reading Sta) (W : Reading Exp) (i : Parser Sta) (w : Parser Exp) (
     opened : ts ≡ sign s.ParenOpen b ∷ us
     reads : W us x (sign s.ParenClose c ∷ rest)
 
-  test_sound : (a : TokenKind) (at : Span) (ts : Tokens) {x : Exp} {rest : Tokens} → test i w (token a at ∷ ts) ≡ Ok (x, rest) → ReadsTest a at ts x rest
-  unfolding test
-  test_sound a at ts e = via (expect s.ParenOpen ts) _ e (λ b us e1 e2. via (w us) _ e2 (λ x vs e3 e4. via (expect s.ParenClose vs) _ e4 (λ c ws e5 e6.
+  condition_sound : (a : TokenKind) (at : Span) (ts : Tokens) {x : Exp} {rest : Tokens} → condition i w (token a at ∷ ts) ≡ Ok (x, rest) → ReadsTest a at ts x rest
+  unfolding condition
+  condition_sound a at ts e = via (expect s.ParenOpen ts) _ e (λ b us e1 e2. via (w us) _ e2 (λ x vs e3 e4. via (expect s.ParenClose vs) _ e4 (λ c ws e5 e6.
       same_ok (λ x rest. ReadsTest a at ts x rest) e6 (record { b = b; us = us; c = c; opened = expect_ok s.ParenOpen ts e1; reads = rw (expect_ok s.ParenClose vs e5) at (good.sound us e3) }))))
 
-  test_via : {G : Type 0} (a : TokenKind) (at : Span) (ts : Tokens) {x : Exp} {rest : Tokens} → test i w (token a at ∷ ts) ≡ Ok (x, rest)
+  condition_via : {G : Type 0} (a : TokenKind) (at : Span) (ts : Tokens) {x : Exp} {rest : Tokens} → condition i w (token a at ∷ ts) ≡ Ok (x, rest)
       → ((b : Span) (us : Tokens) (c : Span) → ts ≡ sign s.ParenOpen b ∷ us → W us x (sign s.ParenClose c ∷ rest) → G) → G
-  test_via a at ts e go = let t = test_sound a at ts e in go t.b t.us t.c t.opened t.reads
+  condition_via a at ts e go = let t = condition_sound a at ts e in go t.b t.us t.c t.opened t.reads
 
   branches_sound : (a : Span) (ts : Tokens) {x : Sta} {rest : Tokens} → branches i w (keyword k.If a ∷ ts) ≡ Ok (x, rest) → Statement I W (keyword k.If a ∷ ts) x rest
   unfolding branches
-  branches_sound a ts e = via (test i w (keyword k.If a ∷ ts)) _ e (λ x us e1 e2. via (i us) _ e2 (λ y vs e3 e4.
-      let t = test_sound (tk.Keyword k.If) a ts e1 in
+  branches_sound a ts e = via (condition i w (keyword k.If a ∷ ts)) _ e (λ x us e1 e2. via (i us) _ e2 (λ y vs e3 e4.
+      let t = condition_sound (tk.Keyword k.If) a ts e1 in
       split (sees_keyword k.Else vs)
       (λ h. via (i (next vs)) _ (rw (h, after_keyword_seen k.Else vs h) at e4) (λ z ws e5 e6.
       rw t.opened (same_ok (λ x rest. Statement I W (keyword k.If a ∷ sign s.ParenOpen t.b ∷ t.us) x rest) e6
@@ -430,15 +430,15 @@ module _ (I : Reading Sta) (W : Reading Exp) (i : Parser Sta) (w : Parser Exp) (
 
   repeated_sound : (a : Span) (ts : Tokens) {x : Sta} {rest : Tokens} → repeated i w (keyword k.While a ∷ ts) ≡ Ok (x, rest) → Statement I W (keyword k.While a ∷ ts) x rest
   unfolding repeated
-  repeated_sound a ts e = via (test i w (keyword k.While a ∷ ts)) _ e (λ x us e1 e2. via (i us) _ e2 (λ y vs e3 e4.
-      let t = test_sound (tk.Keyword k.While) a ts e1 in
+  repeated_sound a ts e = via (condition i w (keyword k.While a ∷ ts)) _ e (λ x us e1 e2. via (i us) _ e2 (λ y vs e3 e4.
+      let t = condition_sound (tk.Keyword k.While) a ts e1 in
       rw t.opened (same_ok (λ x rest. Statement I W (keyword k.While a ∷ sign s.ParenOpen t.b ∷ t.us) x rest) e4 (gr.Statement.while t.reads (good_inner.sound us e3)))))
 
   do_sound : (a : Span) (ts : Tokens) {x : Sta} {rest : Tokens} → do_repeated i w (keyword k.Do a ∷ ts) ≡ Ok (x, rest) → Statement I W (keyword k.Do a ∷ ts) x rest
   unfolding do_repeated
   do_sound a ts e = via (i ts) _ e (λ y us e1 e2. split (sees_keyword k.While us)
-      (λ h. via (test i w us) _ (rw h at e2) (λ x vs e3 e4. via (expect s.Semicolon vs) _ e4 (λ m ws e5 e6.
-      test_via (tk.Keyword k.While) (span us) (next us) (rw (seen_keyword k.While us h) at e3) (λ b zs c opened reads.
+      (λ h. via (condition i w us) _ (rw h at e2) (λ x vs e3 e4. via (expect s.Semicolon vs) _ e4 (λ m ws e5 e6.
+      condition_via (tk.Keyword k.While) (span us) (next us) (rw (seen_keyword k.While us h) at e3) (λ b zs c opened reads.
       same_ok (λ x rest. Statement I W (keyword k.Do a ∷ ts) x rest) e6
       (gr.Statement.do_while (rw (seen_keyword k.While us h, opened) at (good_inner.sound ts e1)) (rw (expect_ok s.Semicolon vs e5) at reads))))))
       (λ h. absurd (no_sta (rw h at e2))))

@@ -120,8 +120,8 @@ module _ (inner : Parser Sta) (whole : Parser Exp) where
       pure xs)
 
   -- in parentheses, behind a keyword
-  unfoldable pub test : Parser Exp
-  test = do
+  unfoldable pub condition : Parser Exp
+  condition = do
     take
     expect s.ParenOpen
     x ← whole
@@ -130,14 +130,14 @@ module _ (inner : Parser Sta) (whole : Parser Exp) where
 
   unfoldable pub branches : Parser Sta
   branches = do
-    x ← test
+    x ← condition
     y ← inner
     is_else ← eat_keyword k.Else
     if is_else then (λ z. tree.when_else x y z) <$> inner else pure (tree.when x y)
 
   unfoldable pub repeated : Parser Sta
   repeated = do
-    x ← test
+    x ← condition
     tree.while x <$> inner
 
   unfoldable pub do_repeated : Parser Sta
@@ -146,7 +146,7 @@ module _ (inner : Parser Sta) (whole : Parser Exp) where
     y ← inner
     is_while ← (λ ts. Ok (sees_keyword k.While ts, ts))
     if is_while then (do
-      x ← test
+      x ← condition
       expect s.Semicolon
       pure (tree.do_while y x)) else refuse
 

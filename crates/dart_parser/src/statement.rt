@@ -76,9 +76,9 @@ impl<F: Fn(Global, &mut Cursor<'_>, usize) -> Result<Stmt, Refusal>> Statements<
     }
 
     /// In parentheses, behind a keyword.
-    #[tactic(auto, unfolding(crate::specs::Statements::test))]
-    fn test(&self, tokens: &mut Cursor<'_>) -> Result<Expr, Refusal>
-        ensures { Reads exp (spec.test (spec.stmt self.now.depth) (expr self.now.depth) tokens.old) result tokens.new }
+    #[tactic(auto, unfolding(crate::specs::Statements::condition))]
+    fn condition(&self, tokens: &mut Cursor<'_>) -> Result<Expr, Refusal>
+        ensures { Reads exp (spec.condition (spec.stmt self.now.depth) (expr self.now.depth) tokens.old) result tokens.new }
     {
         tokens.skip();
         tokens.expect(Sign::ParenOpen)?;
@@ -92,7 +92,7 @@ impl<F: Fn(Global, &mut Cursor<'_>, usize) -> Result<Stmt, Refusal>> Statements<
         requires { NestsStmt self.now.depth (F.pre self.now.stmt) (F.post self.now.stmt) }
         ensures { Reads sta (spec.branches (spec.stmt self.now.depth) (expr self.now.depth) tokens.old) result tokens.new }
     {
-        let test = self.test(tokens)?;
+        let test = self.condition(tokens)?;
         let then = Boxed::new(self.alloc, self.inner(tokens)?)?;
         if !tokens.eat_keyword(Keyword::Else) {
             return Ok(Stmt::If(test, then, None));
@@ -106,7 +106,7 @@ impl<F: Fn(Global, &mut Cursor<'_>, usize) -> Result<Stmt, Refusal>> Statements<
         requires { NestsStmt self.now.depth (F.pre self.now.stmt) (F.post self.now.stmt) }
         ensures { Reads sta (spec.repeated (spec.stmt self.now.depth) (expr self.now.depth) tokens.old) result tokens.new }
     {
-        let test = self.test(tokens)?;
+        let test = self.condition(tokens)?;
         Ok(Stmt::While(test, Boxed::new(self.alloc, self.inner(tokens)?)?))
     }
 
@@ -120,7 +120,7 @@ impl<F: Fn(Global, &mut Cursor<'_>, usize) -> Result<Stmt, Refusal>> Statements<
         if !tokens.sees_keyword(Keyword::While) {
             return Err(tokens.refuse());
         }
-        let test = self.test(tokens)?;
+        let test = self.condition(tokens)?;
         tokens.expect(Sign::Semicolon)?;
         Ok(Stmt::Do(body, test))
     }
