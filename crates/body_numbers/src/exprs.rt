@@ -11,7 +11,7 @@ use crate::numbers::Numbers;
 use crate::operators::{compound, negated, operator_of, step_operator};
 use crate::pieces::{
     assignment, bare, bare_spot, call, element_spot, link_site, member_spot, operating, prefixed,
-    send, string, super_spot, units_of,
+    room_for, send, string, super_spot, units_of,
 };
 use crate::slots::Slots;
 use dart_syntax::token::Span;
@@ -145,7 +145,7 @@ pub fn expressions<N: Numbers>(
 ) -> Result<Items<Expression>, NoMemory>
     ensures { IfOk result (λ xs. exps_of xs ≡ num.exps (N.tree numbers.now) (N.site_of numbers.now) (N.here numbers.now) slots.now (exps (map exp all.now))) }
 {
-    let mut found = Items::new(alloc);
+    let mut found = room_for(alloc, all.len())?;
     for e in all {
         let x = expression(alloc, numbers, slots, e)?;
         found.push(x)?;
@@ -164,7 +164,7 @@ fn interpolations<N: Numbers>(
 ) -> Result<Items<Piece<Expression>>, NoMemory>
     ensures { IfOk result (λ xs. pieces_of xs ≡ num.pieces (N.tree numbers.now) (N.site_of numbers.now) (N.here numbers.now) slots.now first (pieces (map piece all.now))) }
 {
-    let mut found = Items::new(alloc);
+    let mut found = room_for(alloc, all.len())?;
     let mut at = first;
     for piece in all {
         let site = numbers.site(at);
@@ -186,7 +186,7 @@ fn operations<N: Numbers>(
 ) -> Result<Items<Link<Expression>>, NoMemory>
     ensures { IfOk result (λ xs. links_of xs ≡ num.links (N.tree numbers.now) (N.site_of numbers.now) (N.here numbers.now) slots.now (links (map link all.now))) }
 {
-    let mut found = Items::new(alloc);
+    let mut found = room_for(alloc, all.len())?;
     for link in all {
         let operator = operator_of(link.operator);
         let site = link_site(numbers, operator, link.span);
@@ -235,7 +235,7 @@ fn select<N: Numbers>(
             send(alloc, numbers, name.span, to, args)
         }
         Selector::Index(at, index) => {
-            let mut args = Items::new(alloc);
+            let mut args = room_for(alloc, 1)?;
             args.push(expression(alloc, numbers, slots, index)?)?;
             send(alloc, numbers, *at, to, args)
         }

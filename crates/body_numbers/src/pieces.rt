@@ -1,6 +1,6 @@
 //! The parts of expressions that hold no others of the tree: calls, names, and sites.
 
-ghost use Rattle.std.specs.Prelude.{◌≡◌, IfOk, not};
+ghost use Rattle.std.specs.Prelude.{◌≡◌, [], IfOk, not};
 ghost use Rattle.std.specs.Option.{option_map};
 ghost use Rattle.dart_syntax.specs.Syntax as tree;
 ghost use Rattle.program.specs.declared.literal.Literal.TheVariants as literal;
@@ -20,6 +20,13 @@ use ds_base::NoMemory;
 use program::{Binary, Compound, Expression, Literal, SelectorKind, SiteId, Spot};
 use sqlite_items::{Boxed, Items};
 use std::alloc::Global;
+
+/// An empty list with room for as many items and no more, since trees are mostly of short lists.
+pub fn room_for<T>(alloc: Global, count: usize) -> Result<Items<T>, NoMemory>
+    ensures { IfOk result (λ xs. xs ≡ []) }
+{
+    Ok(Items::from_vec(Vec::with_capacity(alloc, count)?))
+}
 
 /// The code units of a string.
 pub fn units_of(alloc: Global, units: &Units) -> Result<Units, NoMemory>

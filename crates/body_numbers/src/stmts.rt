@@ -11,6 +11,7 @@ ghost use Rattle.body_numbers.specs.Views.{stas_of};
 
 use crate::exprs::{expression, expressions};
 use crate::numbers::Numbers;
+use crate::pieces::room_for;
 use crate::slots::Slots;
 use dart_syntax::tree;
 use dart_syntax::tree::{Expr, Stmt};
@@ -186,7 +187,7 @@ pub fn statements<'a, N: Numbers>(
     ensures form { IfOk result (λ xs. stas_of xs ≡ num.stas (N.tree numbers.now) (N.site_of numbers.now) (N.here numbers.now) slots.old (stas (map sta all.now))) }
     ensures grown { OnOk result (Grown slots.old slots.new) }
 {
-    let mut found = Items::new(alloc);
+    let mut found = room_for(alloc, all.len())?;
     for x in all {
         let s = statement(alloc, numbers, slots, x)?;
         found.push(s)?;

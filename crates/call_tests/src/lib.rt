@@ -12,6 +12,8 @@ mod lookup;
 #[cfg(test)]
 mod members;
 #[cfg(test)]
+mod numbering;
+#[cfg(test)]
 mod parsing;
 #[cfg(test)]
 mod printing;
