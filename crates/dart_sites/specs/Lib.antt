@@ -1,12 +1,5 @@
 pub mod Words
 pub mod Outside
-pub mod Places
 pub mod Source
 pub mod Refusals
-pub mod Meaning
-pub mod Entry
-pub mod Calls
-pub mod Numbering
-pub mod Running
-pub mod Report
 pub mod Top

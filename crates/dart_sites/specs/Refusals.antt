@@ -11,7 +11,7 @@ use Rattle.static_rules.specs.declared.rule.Limit.{Limit}
 use Rattle.static_rules.specs.declared.rule.Limit.TheVariants as limit
 use Rattle.static_rules.specs.Accepted.{most, Counts}
 use Rattle.resolver.specs.Entries.{has_entry}
-use Rattle.dart_sites.specs.Places.{place_text}
+use Rattle.first_run.specs.Places.{place_text}
 
 abbrev pub rule_name : Rule → List ℕ
 rule_name rule.DuplicateName = codes "DuplicateName"

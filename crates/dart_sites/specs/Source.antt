@@ -7,13 +7,13 @@ use Rattle.dart_syntax.specs.Derivation.{Derives}
 use Rattle.dart_lexer.specs.declared.error.LexError.{LexError}
 use Rattle.dart_lexer.specs.declared.error.LexError.TheVariants as error
 use Rattle.dart_lexer.specs.FirstFault.{Refused}
+use Rattle.first_run.specs.Places.{place_text}
 use Rattle.dart_sites.specs.declared.source.Refusal.{Refusal}
 use Rattle.dart_sites.specs.declared.source.RefusalKind.{RefusalKind}
 use Rattle.dart_sites.specs.declared.source.RefusalKind.TheVariants as kind
 use Rattle.dart_sites.specs.declared.source.Read.{Read}
 use Rattle.dart_sites.specs.declared.source.Read.TheVariants as read
 use Rattle.dart_syntax.specs.View.{unit}
-use Rattle.dart_sites.specs.Places.{place_text}
 
 -- the bytes have a token list, and that list has this tree
 pub record IsSource (input : List ℕ) (t : Tree) : Type 0 where

@@ -9,9 +9,9 @@ use Rattle.static_rules.specs.declared.rule.Rule.{Rule}
 use Rattle.static_rules.specs.declared.rule.Limit.{Limit}
 use Rattle.static_rules.specs.Accepted as rules
 use Rattle.static_rules.specs.Accepted.{failing, exceeded, counts}
+use Rattle.first_run.specs.Entry.{entry_meaning, is_done}
+use Rattle.first_run.specs.Report.{text_of_run}
 use Rattle.dart_sites.specs.Refusals.{rule_line, limit_line, missing, entry_line, check_text}
-use Rattle.dart_sites.specs.Entry.{entry_meaning, is_done}
-use Rattle.dart_sites.specs.Report.{text_of_run}
 use Rattle.dart_sites.specs.declared.source.Refusal.{Refusal}
 use Rattle.dart_sites.specs.Source.{IsSource, IsTreeOf, NoTree, IsRefused, refusal_line}
 use Rattle.dart_sites.specs.Outside.{HasWritten}

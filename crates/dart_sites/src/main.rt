@@ -1,19 +1,13 @@
 //! `dart_sites`: runs programs in a profile of Dart, and reports the call sites of each run.
 #![tactic(auto)]
 
-mod calls;
-mod numbering;
-mod places;
 mod reading;
 mod refusals;
-mod report;
-mod running;
 mod source;
 mod status;
 mod telling;
 #[cfg(test)]
 mod tests;
-mod text;
 mod top;
 mod words;
 mod writing;

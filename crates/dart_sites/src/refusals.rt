@@ -5,9 +5,8 @@ ghost use Rattle.program.specs.Program.{parts_of};
 ghost use Rattle.resolver.specs.Counted.{counts_of_parts};
 ghost use Rattle.dart_sites.specs.Refusals.{rule_name, rule_line, limit_name, limit_line, entry_line, check_text};
 
-use crate::places::push_place;
-use crate::text::{push, push_number};
 use ds_base::NoMemory;
+use first_run::{push, push_number, push_place};
 use program::Numbered;
 use resolver::{Broken, Limit, Rule};
 use std::alloc::Global;

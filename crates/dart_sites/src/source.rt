@@ -4,12 +4,11 @@ ghost use Rattle.dart_syntax.specs.declared.token.Token.{Token};
 ghost use Rattle.dart_syntax.specs.Tokens.{TokenList};
 ghost use Rattle.dart_sites.specs.Source.{kind_name, refusal_of, is_of_grammar, refusal_line, ReadSays};
 
-use crate::places::push_place;
-use crate::text::push;
 use dart_lexer::{LexError, tokens};
 use dart_parser::{ParseError, parse};
 use dart_syntax::{Token, Tree};
 use ds_base::NoMemory;
+use first_run::{push, push_place};
 use std::alloc::Global;
 
 /// Why bytes are no source.

@@ -1,7 +1,7 @@
 use Rattle.std.proofs.Common.{◌≡◌, ◌∙◌, rules, codes}
-use Rattle.dart_sites.specs.Calls.{calls_of}
-use Rattle.dart_sites.specs.Numbering.{IsProgramOf}
-use Rattle.dart_sites.proofs.CallFacts.{main_prints}
+use Rattle.first_run.specs.Calls.{calls_of}
+use Rattle.first_run.specs.Numbering.{IsProgramOf}
+use Rattle.first_run.proofs.CallFacts.{main_prints}
 use Rattle.dart_sites.proofs.telling.run_form.Goals as goal
 
 pub run_program-requires-clause-body : goal.run_program-requires-clause-body

@@ -1,10 +1,10 @@
 use Rattle.std.proofs.Common.{rules, ◌≡◌, ◌∙◌, ap, arith, length}
 use Rattle.std.specs.Prelude.{slice_index, codes, ◌++◌}
 use Rattle.call_cell.specs.Sites.{state_at}
-use Rattle.dart_sites.specs.Entry.{is_done}
-use Rattle.dart_sites.specs.Report.{entry_part, site_lines, sites_of}
-use Rattle.dart_sites.proofs.Reports.{length-body}
-use Rattle.dart_sites.proofs.TreeRuns.{sites_are, few, sites_low, all_concrete, int_concrete, did_from, told_ending, told_calls, told_text}
+use Rattle.first_run.specs.Entry.{is_done}
+use Rattle.first_run.specs.Report.{entry_part, site_lines, sites_of}
+use Rattle.first_run.proofs.Reports.{length-body}
+use Rattle.first_run.proofs.TreeRuns.{sites_are, few, sites_low, all_concrete, int_concrete, did_from, told_ending, told_calls, told_text}
 use Rattle.dart_sites.proofs.telling.run_program.Goals as goal
 
 pub run_main-requires-clause-sites : goal.run_main-requires-clause-sites

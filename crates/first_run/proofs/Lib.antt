@@ -1,0 +1,7 @@
+pub mod Walk
+pub mod CallFacts
+pub mod Smalls
+pub mod Resolving
+pub mod Entries
+pub mod Reports
+pub mod TreeRuns
