@@ -1,6 +1,6 @@
 -- What was told of the bytes that were read, said of the bytes that the source held.
-use Rattle.std.proofs.Common.{◌≡◌, ℕ, List, Bool, refl, sym, subst, ◌∙◌, Option, Some, None, IfSome}
-use Rattle.std.specs.Io.KnownBytes.{Appends, IsAtEnd}
+use Rattle.std.proofs.Common.{◌≡◌, ℕ, List, Bool, refl, sym, subst, ◌∙◌, Option, Some, None}
+use Rattle.std.specs.Io.KnownBytes.{Appends}
 use Rattle.first_form.specs.Form.{form_of}
 use Rattle.dart_sites.specs.declared.words.Request.{Request}
 use Rattle.dart_sites.specs.Outside.{ReadAll}
@@ -14,41 +14,33 @@ use Rattle.dart_sites.specs.Top.{Says, Defines, WholeWritten, PartWritten, CutSh
 use Rattle.dart_sites.specs.Words.{Asks}
 use Rattle.dart_sites.proofs.FourWords.{check_is_no_run}
 
-defines : (words : List (List ℕ)) (input bytes given text : List ℕ) (left : Option (List ℕ)) (request : Request) (all_done : Bool) →
-    Asks words request → ReadAll (Some input) left bytes → given ≡ bytes → Says request given text all_done → Defines words input left text all_done
-defines words input bytes given text left request all_done asks all same says =
-    record { request = request; asks = asks; read = all.all.1; says = subst (λ b. Says request b text all_done) (same ∙ sym all.all.0) says }
+defines : (words : List (List ℕ)) (old left : Option (List ℕ)) (bytes given text : List ℕ) (request : Request) (all_done : Bool) →
+    Asks words request → ReadAll old left bytes → given ≡ bytes → Says request given text all_done → Defines words old left text all_done
+defines words old left bytes given text request all_done asks all same says =
+    record { request = request; asks = asks; input = bytes; read = all; says = subst (λ b. Says request b text all_done) same says }
 
 pub whole_written : (words : List (List ℕ)) (old left held holds : Option (List ℕ)) (bytes given text : List ℕ) (request : Request) (all_done is : Bool) →
     Asks words request → ReadAll old left bytes → given ≡ bytes → Says request given text all_done → all_done ≡ is → Appends held holds text →
-    IfSome old (λ input. WholeWritten words input left held holds is)
-whole_written words None left held holds bytes given text request all_done is asks all same says e written = tt
-whole_written words (Some input) left held holds bytes given text request all_done is asks all same says e written =
-    record { text = text; defined = defines words input bytes given text left request is asks all same (subst (Says request given text) e says); written = written }
+    WholeWritten words old left held holds is
+whole_written words old left held holds bytes given text request all_done is asks all same says e written =
+    record { text = text; defined = defines words old left bytes given text request is asks all same (subst (Says request given text) e says); written = written }
 
 pub part_written : (words : List (List ℕ)) (old left held holds : Option (List ℕ)) (bytes given text : List ℕ) (request : Request) (all_done : Bool) →
     Asks words request → ReadAll old left bytes → given ≡ bytes → Says request given text all_done → CutShort held holds text →
-    IfSome old (λ input. PartWritten words input left held holds)
-part_written words None left held holds bytes given text request all_done asks all same says cut = tt
-part_written words (Some input) left held holds bytes given text request all_done asks all same says cut =
-    record { text = text; all_done = all_done; defined = defines words input bytes given text left request all_done asks all same says; written = cut }
+    PartWritten words old left held holds
+part_written words old left held holds bytes given text request all_done asks all same says cut =
+    record { text = text; all_done = all_done; defined = defines words old left bytes given text request all_done asks all same says; written = cut }
 
 pub source_refused : (why : List ℕ → List ℕ → Type 0) (old left held holds : Option (List ℕ)) (before now : ℕ) (bytes given line : List ℕ) → ReadAll old left bytes → given ≡ bytes → why given line →
-    LineWritten held holds before now line → IfSome old (λ input. SourceRefused why input left held holds before now)
-source_refused why None left held holds before now bytes given line all same because written = tt
-source_refused why (Some input) left held holds before now bytes given line all same because written =
-    record { line = line; because = subst (λ b. why b line) (same ∙ sym all.all.0) because; read = all.all.1; written = written }
+    LineWritten held holds before now line → SourceRefused why old left held holds before now
+source_refused why old left held holds before now bytes given line all same because written =
+    record { input = bytes; read = all; line = line; because = subst (λ b. why b line) same because; written = written }
 
 pub request_refused : (words : List (List ℕ)) (old left held holds : Option (List ℕ)) (before now : ℕ) (bytes given line : List ℕ) (request : Request) → Asks words request →
     ReadAll old left bytes → given ≡ bytes → NamesRefused request given line → LineWritten held holds before now line →
-    IfSome old (λ input. RequestRefused words input left held holds before now)
-request_refused words None left held holds before now bytes given line request asks all same because written = tt
-request_refused words (Some input) left held holds before now bytes given line request asks all same because written =
-    record {
-      request = request;
-      asks = asks;
-      refused = record { line = line; because = subst (λ b. NamesRefused request b line) (same ∙ sym all.all.0) because; read = all.all.1; written = written };
-    }
+    RequestRefused words old left held holds before now
+request_refused words old left held holds before now bytes given line request asks all same because written =
+    record { request = request; asks = asks; refused = source_refused (NamesRefused request) old left held holds before now bytes given line all same because written }
 
 pub no_source_not_accepted : (words : List (List ℕ)) (old left : Option (List ℕ)) (bytes given line : List ℕ) → ReadAll old left bytes → given ≡ bytes → NoSource given line → IsAccepted words old → ⊥
 no_source_not_accepted words None left bytes given line all same none accepted = accepted.source

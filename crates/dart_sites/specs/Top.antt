@@ -1,6 +1,6 @@
 -- What each status of the program says.
 use Rattle.std.specs.Prelude.{◌≡◌, ℕ, ◌≤◌, ◌<◌, Bool, true, false, List, [], ◌∷◌, length, take, Option, MatchOption, IsSomeAnd, codes, Some, None}
-use Rattle.std.specs.Io.KnownBytes.{Appends, IsAtEnd}
+use Rattle.std.specs.Io.KnownBytes.{Appends}
 use Rattle.dart_syntax.specs.Syntax.{Tree}
 use Rattle.first_form.specs.declared.form.Form.{Form}
 use Rattle.first_form.specs.Form.{form_of}
@@ -14,7 +14,7 @@ use Rattle.first_run.specs.Report.{text_of_run}
 use Rattle.dart_sites.specs.Refusals.{rule_line, limit_line, missing, entry_line, check_text}
 use Rattle.dart_sites.specs.declared.source.Refusal.{Refusal}
 use Rattle.dart_sites.specs.Source.{IsSource, IsTreeOf, NoTree, IsRefused, refusal_line}
-use Rattle.dart_sites.specs.Outside.{HasWritten}
+use Rattle.dart_sites.specs.Outside.{HasWritten, ReadAll}
 use Rattle.dart_sites.specs.Words.{Asks}
 use Rattle.dart_sites.specs.declared.words.Request.{Request}
 use Rattle.dart_sites.specs.declared.words.Request.TheVariants.{Check, Run}
@@ -98,17 +98,18 @@ OutcomeSays request input outcome.NoMemory = Unit {0}
 
 -- ---- what was written
 
--- the words are a request, which says this text of the bytes, and the bytes were read to their end
-pub record Defines (words : List (List ℕ)) (input : List ℕ) (left : Option (List ℕ)) (text : List ℕ) (all_done : Bool) : Type 0 where
+-- the words are a request, all bytes that the source held were read, within the limit, and the request says this text of them
+pub record Defines (words : List (List ℕ)) (old left : Option (List ℕ)) (text : List ℕ) (all_done : Bool) : Type 0 where
   pub request : Request
   pub asks : Asks words request
-  pub read : IsAtEnd left
+  pub input : List ℕ
+  pub read : ReadAll old left input
   pub says : Says request input text all_done
 
 -- the defined text was written whole; its entries were all done, or not
-pub record WholeWritten (words : List (List ℕ)) (input : List ℕ) (left held holds : Option (List ℕ)) (all_done : Bool) : Type 0 where
+pub record WholeWritten (words : List (List ℕ)) (old left held holds : Option (List ℕ)) (all_done : Bool) : Type 0 where
   pub text : List ℕ
-  pub defined : Defines words input left text all_done
+  pub defined : Defines words old left text all_done
   pub written : Appends held holds text
 
 -- a proper part of a text was written, from its front
@@ -118,15 +119,15 @@ pub record CutShort (held holds : Option (List ℕ)) (text : List ℕ) : Type 0 
   pub part : Appends held holds (take count text)
 
 -- a proper part of the defined text was written
-pub record PartWritten (words : List (List ℕ)) (input : List ℕ) (left held holds : Option (List ℕ)) : Type 0 where
+pub record PartWritten (words : List (List ℕ)) (old left held holds : Option (List ℕ)) : Type 0 where
   pub text : List ℕ
   pub all_done : Bool
-  pub defined : Defines words input left text all_done
+  pub defined : Defines words old left text all_done
   pub written : CutShort held holds text
 
 -- ---- refusals
 
--- the one line of a refusal, but for those of the bytes
+-- the one line of a refusal, but for those of the bytes, which have records of their own
 abbrev pub line_of : Status → Option (List ℕ)
 line_of status.Done = None
 line_of status.EntryFault = None
@@ -146,18 +147,19 @@ LineWritten held holds before now line = (whole : Bool) × HasWritten held holds
 abbrev pub RefusalWritten : Status → Option (List ℕ) → Option (List ℕ) → ℕ → ℕ → Type 0
 RefusalWritten answer held holds before now = MatchOption (line_of answer) (Unit {0}) (LineWritten held holds before now)
 
--- the bytes were read to their end, and the line that says why they are refused was written
-pub record SourceRefused (why : List ℕ → List ℕ → Type 0) (input : List ℕ) (left held holds : Option (List ℕ)) (before now : ℕ) : Type 0 where
+-- all bytes that the source held were read, within the limit, and the line that says why they are refused was written
+pub record SourceRefused (why : List ℕ → List ℕ → Type 0) (old left held holds : Option (List ℕ)) (before now : ℕ) : Type 0 where
+  pub input : List ℕ
+  pub read : ReadAll old left input
   pub line : List ℕ
   pub because : why input line
-  pub read : IsAtEnd left
   pub written : LineWritten held holds before now line
 
 -- the same, of a request that the words are
-pub record RequestRefused (words : List (List ℕ)) (input : List ℕ) (left held holds : Option (List ℕ)) (before now : ℕ) : Type 0 where
+pub record RequestRefused (words : List (List ℕ)) (old left held holds : Option (List ℕ)) (before now : ℕ) : Type 0 where
   pub request : Request
   pub asks : Asks words request
-  pub refused : SourceRefused (NamesRefused request) input left held holds before now
+  pub refused : SourceRefused (NamesRefused request) old left held holds before now
 
 -- ---- completeness
 

@@ -1,5 +1,5 @@
 // The program: from the words and a source to a text in a sink.
-ghost use Rattle.std.specs.Prelude.{◌≡◌, ◌↔◌, ◌≤◌, IfSome, true, false};
+ghost use Rattle.std.specs.Prelude.{◌≡◌, ◌↔◌, ◌≤◌, true, false};
 ghost use Rattle.std.specs.Io.KnownBytes.{Appends};
 ghost use Rattle.ds_base.specs.Outside.{Rose};
 ghost use Rattle.dart_sites.specs.Outside.{ReadTooMuch, ReadWithin};
@@ -24,19 +24,19 @@ pub fn dart_sites_one<S: Source, K: Sink>(
 ) -> Status
     // The text that the request defines for the bytes read is written: the entry's lines and ending are those of its meaning, with lookup at
     // every call; each site's count is that of the calls that asked it; its state is the fold over the classes called there.
-    ensures done { result ≡ Status.Done → IfSome (S.rest source.old) (λ input. WholeWritten (texts words.now) input (S.rest source.new) (K.written sink.old) (K.written sink.new) true) }
-    ensures entry_fault { result ≡ Status.EntryFault → IfSome (S.rest source.old) (λ input. WholeWritten (texts words.now) input (S.rest source.new) (K.written sink.old) (K.written sink.new) false) }
+    ensures done { result ≡ Status.Done → WholeWritten (texts words.now) (S.rest source.old) (S.rest source.new) (K.written sink.old) (K.written sink.new) true }
+    ensures entry_fault { result ≡ Status.EntryFault → WholeWritten (texts words.now) (S.rest source.old) (S.rest source.new) (K.written sink.old) (K.written sink.new) false }
 
     // Each other answer but want of memory has its cause.
     ensures bad_words { (result ≡ Status.BadWords) ↔ NoRequest (texts words.now) }
     ensures untouched { result ≡ Status.BadWords → source.new ≡ source.old }
     ensures read_fault { result ≡ Status.ReadFault → Rose (S.faults source.old) (S.faults source.new) }
     ensures too_large { result ≡ Status.TooLarge → ReadTooMuch (S.rest source.old) (S.rest source.new) }
-    ensures no_source { result ≡ Status.SyntaxRefused → IfSome (S.rest source.old) (λ input. SourceRefused NoSource input (S.rest source.new) (K.written sink.old) (K.written sink.new) (K.faults sink.old) (K.faults sink.new)) }
-    ensures names { result ≡ Status.NameRefused → IfSome (S.rest source.old) (λ input. RequestRefused (texts words.now) input (S.rest source.new) (K.written sink.old) (K.written sink.new) (K.faults sink.old) (K.faults sink.new)) }
-    ensures limits { result ≡ Status.LimitRefused → IfSome (S.rest source.old) (λ input. SourceRefused OverLimit input (S.rest source.new) (K.written sink.old) (K.written sink.new) (K.faults sink.old) (K.faults sink.new)) }
+    ensures no_source { result ≡ Status.SyntaxRefused → SourceRefused NoSource (S.rest source.old) (S.rest source.new) (K.written sink.old) (K.written sink.new) (K.faults sink.old) (K.faults sink.new) }
+    ensures names { result ≡ Status.NameRefused → RequestRefused (texts words.now) (S.rest source.old) (S.rest source.new) (K.written sink.old) (K.written sink.new) (K.faults sink.old) (K.faults sink.new) }
+    ensures limits { result ≡ Status.LimitRefused → SourceRefused OverLimit (S.rest source.old) (S.rest source.new) (K.written sink.old) (K.written sink.new) (K.faults sink.old) (K.faults sink.new) }
     ensures write_fault { result ≡ Status.WriteFault → Rose (K.faults sink.old) (K.faults sink.new) }
-    ensures cut_short { result ≡ Status.WriteFault → IfSome (S.rest source.old) (λ input. PartWritten (texts words.now) input (S.rest source.new) (K.written sink.old) (K.written sink.new)) }
+    ensures cut_short { result ≡ Status.WriteFault → PartWritten (texts words.now) (S.rest source.old) (S.rest source.new) (K.written sink.old) (K.written sink.new) }
 
     // A refusal writes its line and nothing else, or a proper part of it where the sink fails; those of the bytes are above. At most one byte more than the limit is read.
     ensures refusal { RefusalWritten result (K.written sink.old) (K.written sink.new) (K.faults sink.old) (K.faults sink.new) }
@@ -77,19 +77,19 @@ pub fn dart_sites_main<R: Threads + Sync, S: Source, K: Sink, G: Gate>(
 ) -> Status
     // The text that the request defines for the bytes read is written: the entry's lines and ending are those of its meaning, with lookup at
     // every call; each site's count is that of the calls that asked it; its state is the fold over the classes called there.
-    ensures done { result ≡ Status.Done → IfSome (S.rest source.old) (λ input. WholeWritten (texts words.now) input (S.rest source.new) (K.written sink.old) (K.written sink.new) true) }
-    ensures entry_fault { result ≡ Status.EntryFault → IfSome (S.rest source.old) (λ input. WholeWritten (texts words.now) input (S.rest source.new) (K.written sink.old) (K.written sink.new) false) }
+    ensures done { result ≡ Status.Done → WholeWritten (texts words.now) (S.rest source.old) (S.rest source.new) (K.written sink.old) (K.written sink.new) true }
+    ensures entry_fault { result ≡ Status.EntryFault → WholeWritten (texts words.now) (S.rest source.old) (S.rest source.new) (K.written sink.old) (K.written sink.new) false }
 
     // Each other answer but want of memory has its cause.
     ensures bad_words { (result ≡ Status.BadWords) ↔ NoRequest (texts words.now) }
     ensures untouched { result ≡ Status.BadWords → source.new ≡ source.old }
     ensures read_fault { result ≡ Status.ReadFault → Rose (S.faults source.old) (S.faults source.new) }
     ensures too_large { result ≡ Status.TooLarge → ReadTooMuch (S.rest source.old) (S.rest source.new) }
-    ensures no_source { result ≡ Status.SyntaxRefused → IfSome (S.rest source.old) (λ input. SourceRefused NoSource input (S.rest source.new) (K.written sink.old) (K.written sink.new) (K.faults sink.old) (K.faults sink.new)) }
-    ensures names { result ≡ Status.NameRefused → IfSome (S.rest source.old) (λ input. RequestRefused (texts words.now) input (S.rest source.new) (K.written sink.old) (K.written sink.new) (K.faults sink.old) (K.faults sink.new)) }
-    ensures limits { result ≡ Status.LimitRefused → IfSome (S.rest source.old) (λ input. SourceRefused OverLimit input (S.rest source.new) (K.written sink.old) (K.written sink.new) (K.faults sink.old) (K.faults sink.new)) }
+    ensures no_source { result ≡ Status.SyntaxRefused → SourceRefused NoSource (S.rest source.old) (S.rest source.new) (K.written sink.old) (K.written sink.new) (K.faults sink.old) (K.faults sink.new) }
+    ensures names { result ≡ Status.NameRefused → RequestRefused (texts words.now) (S.rest source.old) (S.rest source.new) (K.written sink.old) (K.written sink.new) (K.faults sink.old) (K.faults sink.new) }
+    ensures limits { result ≡ Status.LimitRefused → SourceRefused OverLimit (S.rest source.old) (S.rest source.new) (K.written sink.old) (K.written sink.new) (K.faults sink.old) (K.faults sink.new) }
     ensures write_fault { result ≡ Status.WriteFault → Rose (K.faults sink.old) (K.faults sink.new) }
-    ensures cut_short { result ≡ Status.WriteFault → IfSome (S.rest source.old) (λ input. PartWritten (texts words.now) input (S.rest source.new) (K.written sink.old) (K.written sink.new)) }
+    ensures cut_short { result ≡ Status.WriteFault → PartWritten (texts words.now) (S.rest source.old) (S.rest source.new) (K.written sink.old) (K.written sink.new) }
 
     // A refusal writes its line and nothing else, or a proper part of it where the sink fails; those of the bytes are above. At most one byte more than the limit is read.
     ensures refusal { RefusalWritten result (K.written sink.old) (K.written sink.new) (K.faults sink.old) (K.faults sink.new) }
