@@ -1,5 +1,6 @@
 pub mod Words
 pub mod Bytes
+pub mod Places
 pub mod Comments
 pub mod Names
 pub mod Numbers

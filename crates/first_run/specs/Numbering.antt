@@ -13,7 +13,7 @@ use Rattle.first_form.specs.declared.form.MethodDecl.{MethodDecl}
 use Rattle.first_form.specs.declared.form.PrintStmt.{PrintStmt}
 use Rattle.first_form.specs.declared.form.Form.{Form}
 use Rattle.first_run.specs.declared.running.PrintCall.{PrintCall}
-use Rattle.first_run.specs.Places.{line_at, column_at}
+use Rattle.dart_syntax.specs.Places.{line_at, column_at}
 
 abbrev pub small_method : MethodDecl → SmallMethod
 small_method m = record { name = m.name; value = m.value }

@@ -1,6 +1,7 @@
 // Places of a text, as they are shown.
 ghost use Rattle.std.specs.Prelude.{◌≡◌, ◌≤◌, ◌++◌, length, OnOk, take_while, reverse, ◌==◌, not};
-ghost use Rattle.first_run.specs.Places.{line_at, column_at, place_text};
+ghost use Rattle.dart_syntax.specs.Places.{line_at, column_at};
+ghost use Rattle.first_run.specs.Places.{place_text};
 
 use crate::text::{push, push_number};
 use ds_base::NoMemory;

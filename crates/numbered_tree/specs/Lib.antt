@@ -1,3 +1,2 @@
 pub mod Forms
 pub mod NumberedForm
-pub mod TextPlaces

@@ -22,7 +22,7 @@ use Rattle.dart_meaning.specs.Sites.{Site, key, text_sites, prelude_sites, same_
 use Rattle.dart_meaning.specs.Entry.{globals_of}
 use Rattle.dart_meaning.specs.Numbering as num
 use Rattle.numbered_tree.specs.Forms.{Form, ClassForm, FieldForm, ConstructorForm, MethodForm, FunctionForm, DoesForm, BodyForm, reads_field, writes_field, runs, arrow, block, method_form, form_of}
-use Rattle.numbered_tree.specs.TextPlaces.{line_at, column_at}
+use Rattle.dart_syntax.specs.Places.{line_at, column_at}
 
 -- what the optional parameters hold where no argument stands
 abbrev pub default : Param → Option Value

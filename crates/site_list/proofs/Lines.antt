@@ -6,7 +6,7 @@ use Rattle.std.proofs.lemmas.Bool.Decides.{nat_tests}
 use Rattle.std.proofs.lemmas.Bool.{cases_lt, cases_eq}
 use Rattle.std.proofs.lemmas.List.{reverse-append}
 use Rattle.std.proofs.lemmas.List.Sums.{count_by_more_yes, count_by_more_no, count_by-le-length}
-use Rattle.numbered_tree.specs.TextPlaces.{line_at, column_at}
+use Rattle.dart_syntax.specs.Places.{line_at, column_at}
 
 abbrev is_feed : ℕ → Bool
 is_feed b = b == 10

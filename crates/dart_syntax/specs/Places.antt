@@ -1,4 +1,4 @@
--- Lines and columns of a text.
+-- The line and the column of a place of a text, which is the number of bytes before it.
 use Rattle.std.specs.Prelude.{ℕ, ◌+◌, List, length, take, reverse, count_by, take_while, ◌==◌, not}
 
 -- 1 and the line feeds before a place
