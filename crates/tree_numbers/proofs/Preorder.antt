@@ -1,9 +1,10 @@
 -- The order of the classes is that of the definition.
-use Rattle.std.proofs.Common.{◌≡◌, ℕ, zero, suc, Bool, true, false, if◌then◌else◌, cond, List, [], ◌∷◌, ◌++◌, Option, None, Some, refl, sym, ◌∙◌, ap, bytes_eq, unwrap_or}
+use Rattle.std.proofs.Common.{◌≡◌, ℕ, ◌+◌, ◌*◌, ◌<◌, ◌≤◌, arith, map, length, zero, suc, Bool, true, false, if◌then◌else◌, cond, List, [], ◌∷◌, ◌++◌, Option, None, Some, refl, sym, ◌∙◌, ap, bytes_eq, unwrap_or}
 use Rattle.std.specs.Prelude.{flat_map, filter_map, Vec}
 use Rattle.std.specs.Borrow.{Bor}
 use Rattle.std.specs.List.{cons_option}
 use Rattle.std.proofs.lemmas.Slice.Eq.{bytes_eq-Decides}
+use Rattle.std.proofs.lemmas.List.{length-map, length-append}
 use Rattle.dart_syntax.specs.Syntax.{ClassDecl, Tree}
 use Rattle.dart_syntax.specs.Bytes.{Text}
 use Rattle.dart_meaning.specs.Classes.{if_so, classes, parent, children, preorder}
@@ -69,3 +70,12 @@ nothing_placed below n names later e = sym (ap (λ k. flat_map (ordered k below)
 
 pub first_placed : (os kids rest later : List Text) (name : Text) → (os ++ name ∷ []) ++ (kids ++ (rest ++ later)) ≡ os ++ (((name ∷ kids) ++ rest) ++ later)
 first_placed os kids rest later name = append-append os (name ∷ []) (kids ++ (rest ++ later)) ∙ ap (λ t. os ++ (name ∷ t)) (sym (append-append kids rest later))
+
+-- a step that places a class, or takes off one that waits, leaves less to do
+pub fewer : {A B : Type 0} (f : A → B) (placed next : List A) (whole was now : List B) (all popped waits : List Waiting) (w : Waiting) → whole ≡ was → all ≡ popped ++ w ∷ [] → map f next ++ now ≡ map f placed ++ was → length waits + 2 * length placed ≤ length popped + 2 * length next → 2 * length now + length waits < 2 * length whole + length all
+fewer f placed next whole was now all popped waits w e more same most =
+    let both : length next + length now ≡ length placed + length was =
+    ap (λ n. n + length now) (sym (length-map next f)) ∙ sym (length-append (map f next) now) ∙ ap length same ∙ length-append (map f placed) was ∙ ap (λ n. n + length was) (length-map placed f) in
+    let all_more : length all ≡ length popped + 1 = ap length more ∙ length-append popped (w ∷ []) in
+    let wholes : length whole ≡ length was = ap length e in
+    omega (arith, both, most, all_more, wholes)

@@ -1,6 +1,6 @@
 //! The order of the classes: each before those below it.
 
-ghost use Rattle.std.specs.Prelude.{◌≡◌, ◌++◌, suc, OnOk, IfOk, map, flat_map, option_map, unwrap_or};
+ghost use Rattle.std.specs.Prelude.{◌≡◌, ◌≤◌, ◌+◌, ◌*◌, ◌++◌, suc, length, OnOk, IfOk, map, flat_map, option_map, unwrap_or};
 ghost use Rattle.dart_syntax.specs.View.{class};
 ghost use Rattle.dart_meaning.specs.Classes.{object, parent_of, built_in_names};
 ghost use Rattle.dart_syntax.specs.Syntax.{Tree};
@@ -126,7 +126,8 @@ fn place_below<'s, 'a>(
     levels: usize,
     names: Option<&'s Vec<&'a [u8]>>,
 ) -> Result<(), NoMemory>
-    ensures { OnOk result ((below : _) → todo below waiting.new.items ≡ flat_map (ordered levels below) (names_in (option_map (λ v. v.now) names.entry)) ++ todo below waiting.old.items) }
+    ensures below { OnOk result ((below : _) → todo below waiting.new.items ≡ flat_map (ordered levels below) (names_in (option_map (λ v. v.now) names.entry)) ++ todo below waiting.old.items) }
+    ensures most { OnOk result (length waiting.new.items ≤ 1 + length waiting.old.items) }
 {
     if let Some(names) = names {
         if levels > 0 {
@@ -146,7 +147,8 @@ fn place_first<'s, 'a>(
     first: Waiting<'s, 'a>,
     order: &mut Vec<&'a [u8]>,
 ) -> Result<(), NoMemory>
-    ensures { OnOk result (texts order.new.items ++ todo (below_in below.now) waiting.new.items ≡ texts order.old.items ++ (waiting_names (below_in below.now) first.entry ++ todo (below_in below.now) waiting.old.items)) }
+    ensures same { OnOk result (texts order.new.items ++ todo (below_in below.now) waiting.new.items ≡ texts order.old.items ++ (waiting_names (below_in below.now) first.entry ++ todo (below_in below.now) waiting.old.items)) }
+    ensures most { OnOk result (length waiting.new.items + 2 * length order.old.items ≤ length waiting.old.items + 2 * length order.new.items) }
 {
     if let Some((name, rest)) = first.names.split_first() {
         order.push(*name)?;
@@ -158,9 +160,6 @@ fn place_first<'s, 'a>(
     }
     Ok(())
 }
-
-/// More steps than the classes of a program take; where these do not do, there are more classes than numbers.
-const STEPS: usize = 200_000;
 
 /// Takes classes to the order, each with those below it.
 fn place_all<'s, 'a>(
@@ -174,13 +173,10 @@ fn place_all<'s, 'a>(
 {
     let mut waiting = Vec::new(alloc);
     waiting.push(Waiting { levels, names })?;
-    for _ in 0..STEPS {
-        match waiting.pop() {
-            None => return Ok(()),
-            Some(first) => place_first(below, &mut waiting, first, order)?,
-        }
+    while let Some(first) = waiting.pop() {
+        place_first(below, &mut waiting, first, order)?;
     }
-    Err(NoMemory)
+    Ok(())
 }
 
 pub const BUILT_IN: [&[u8]; 7] = [

@@ -3,8 +3,8 @@ use Rattle.tree_numbers.specs.Order.{todo}
 use Rattle.tree_numbers.proofs.Preorder.{placed, nothing_placed}
 use Rattle.tree_numbers.proofs.order.place_below.Goals as goal
 
-pub returns-in_ok-push : goal.returns-in_ok-push
-returns-in_ok-push c = λ below. ap (todo below) c.in_ok-push.ensures.items ∙ placed below c.args.waiting.now.items (record { levels = c.args.levels - 1; names = c.as_slice.result }) c.args.levels _ (grind (arith, c.if-levels-gt0.true)) (search rules)
+pub returns-in_ok-push-clause-below : goal.returns-in_ok-push-clause-below
+returns-in_ok-push-clause-below c = λ below. ap (todo below) c.in_ok-push.ensures.items ∙ placed below c.args.waiting.now.items (record { levels = c.args.levels - 1; names = c.as_slice.result }) c.args.levels _ (grind (arith, c.if-levels-gt0.true)) (search rules)
 
-pub returns-else-levels-gt0 : goal.returns-else-levels-gt0
-returns-else-levels-gt0 c = λ below. nothing_placed below c.args.levels _ _ (grind (arith, c.if-levels-gt0.false))
+pub returns-else-levels-gt0-clause-below : goal.returns-else-levels-gt0-clause-below
+returns-else-levels-gt0-clause-below c = λ below. nothing_placed below c.args.levels _ _ (grind (arith, c.if-levels-gt0.false))
