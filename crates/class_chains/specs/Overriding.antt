@@ -1,5 +1,5 @@
 -- The nearest method of a name above a class, by numbers of classes.
-use Rattle.std.specs.Prelude.{ℕ, zero, suc, List, length, map, position, find, option_map, Option, None, Some}
+use Rattle.std.specs.Prelude.{ℕ, zero, suc, nat_eq, Bool, false, List, length, map, position, find, option_map, Option, None, Some}
 use Rattle.std.specs.Option.{option_and_then}
 use Rattle.std.specs.List.{slice_get}
 use Rattle.std.specs.Str.{bytes_eq}
@@ -22,9 +22,17 @@ use Rattle.class_chains.specs.declared.chains.Chains.{Chains}
 
 -- ---- classes and their own methods
 
+-- the number that a name has
+abbrev pub number_in : {S : Type 0} → HashMap (Bor Text) ℕ S → Text → Option ℕ
+number_in numbers q = get_by (λ k. bytes_eq q k.now) numbers
+
+abbrev pub is_number : ℕ → Option ℕ → Bool
+is_number n None = false
+is_number n (Some other) = nat_eq other n
+
 -- the class of a name, by its number
 abbrev pub found_at : {S : Type 0} → List (Bor src.ClassDecl) → HashMap (Bor Text) ℕ S → Find
-found_at all numbers q = option_and_then (λ n. option_map class_of (slice_get all n)) (get_by (λ k. bytes_eq q k.now) numbers)
+found_at all numbers q = option_and_then (λ n. option_map class_of (slice_get all n)) (number_in numbers q)
 
 abbrev pub find_in : Chains → Find
 find_in k = found_at k.all.items k.numbers

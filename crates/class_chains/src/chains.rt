@@ -10,7 +10,7 @@ ghost use Rattle.program.specs.declared.numbered.SelectorKind.TheVariants.{Call}
 ghost use Rattle.static_rules.specs.BadOverride.{own_count};
 ghost use Rattle.declaration_rules.specs.Finding.{named_of, or_first};
 ghost use Rattle.declaration_rules.specs.Seen.{class_of};
-ghost use Rattle.class_chains.specs.Overriding.{found_at, find_in, own_in, built_in_by, required_of, count_up, above};
+ghost use Rattle.class_chains.specs.Overriding.{number_in, is_number, found_at, find_in, own_in, built_in_by, required_of, count_up, above};
 
 use dart_syntax::tree::{ClassDecl, Member};
 use declaration_rules::sum;
@@ -192,18 +192,18 @@ impl<'a> Chains<'a> {
     }
 
     /// The number of a name's class.
-    pub fn number_of(&self, name: &[u8]) -> Option<usize> {
+    pub fn number_of(&self, name: &[u8]) -> Option<usize>
+        ensures { result ≡ number_in self.now.numbers name.now }
+    {
         self.numbers.get(&name).copied()
     }
 
     /// Whether the class of this number is the one that its name means.
     pub fn is_first(&self, number: usize, name: &[u8]) -> bool
-        ensures { result ≡ true → find_in self.now name.now ≡ option_map class_of (slice_get self.now.all.items number) }
+        ensures exact { result ≡ is_number number (number_in self.now.numbers name.now) }
+        ensures found { result ≡ true → find_in self.now name.now ≡ option_map class_of (slice_get self.now.all.items number) }
     {
-        match self.numbers.get(&name).copied() {
-            Some(first) => first == number,
-            None => false,
-        }
+        self.number_of(name) == Some(number)
     }
 
     fn built_in_count(&self, class: &[u8], name: &[u8]) -> Option<usize>

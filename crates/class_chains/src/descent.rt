@@ -206,7 +206,7 @@ fn at_object<'a>(alloc: Global, chains: &Chains<'a>) -> Result<Option<Nearest<'a
 }
 
 /// What the walk finds in each class that it comes to: all that are below Object, where no class is above itself.
-pub fn places_of(
+pub(crate) fn places_of(
     alloc: Global,
     chains: &Chains<'_>,
 ) -> Result<Vec<Option<Option<Span>>>, AllocError>

@@ -69,7 +69,7 @@ fn below_of(alloc: Global, chains: &Chains<'_>) -> Result<Below, AllocError> {
 }
 
 /// The order, from the roots down. A class that is on a cycle, or below one, is not in it.
-pub fn order_of(alloc: Global, chains: &Chains<'_>) -> Result<Vec<usize>, AllocError> {
+pub(crate) fn order_of(alloc: Global, chains: &Chains<'_>) -> Result<Vec<usize>, AllocError> {
     let below = below_of(alloc, chains)?;
     let mut order = Vec::new(alloc);
     let mut left = Vec::new(alloc);

@@ -186,7 +186,7 @@ impl<'a> Walk<'a> {
 }
 
 /// The ranks, by name. Each is at least 1.
-pub fn ranks_of<'a>(
+pub(crate) fn ranks_of<'a>(
     alloc: Global,
     classes: &[&'a ClassDecl],
 ) -> Result<HashMap<&'a [u8], usize>, AllocError> {
