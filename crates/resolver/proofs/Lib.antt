@@ -1,3 +1,4 @@
 pub mod Findings
 pub mod Programs
 pub mod Entries
+pub mod Refusals

@@ -1,6 +1,6 @@
 //! Accepts a tree, or says why not.
 
-ghost use Rattle.std.specs.Prelude.{◌≡◌, map, take, None, IfOk, IfErr};
+ghost use Rattle.std.specs.Prelude.{◌≡◌, ◌≢◌, map, take, None, IfOk, IfErr, MatchResult};
 ghost use Rattle.dart_syntax.specs.Syntax as t;
 ghost use Rattle.dart_syntax.specs.View.{unit};
 ghost use Rattle.dart_meaning.specs.Uses as u;
@@ -66,9 +66,13 @@ fn accept_bodies(alloc: Global, names: &TextNames, parts: &Parts) -> Result<Coun
 
 /// The counts of a tree that breaks no rule and keeps the limits. An error names the first rule that it breaks, at the first place where it does, or else the first count that is over its limit.
 pub fn accept(alloc: Global, tree: &Tree) -> Result<Counts, NameError>
+    // What is answered is so of the tree.
     ensures refused { IfErr result (λ e. IsRefusal (unit tree.now) e) }
     ensures accepted { IfOk result (λ _. IsAccepted (unit tree.now)) }
     ensures counts { IfOk result (λ c. counts_of c ≡ counts (unit tree.now)) }
+    // What is so of the tree is answered, or want of memory.
+    ensures only { IsAccepted (unit tree.now) → IfErr result (λ e. e ≡ NameError.NoMemory) }
+    ensures cause { (e : NameError) → e ≢ NameError.NoMemory → IsRefusal (unit tree.now) e → MatchResult result (λ _. ⊥) (λ d. d ≢ NameError.NoMemory → d ≡ e) }
 {
     if let Some(found) = of_declarations(alloc, tree)? {
         return Err(error_of(found));

@@ -1,6 +1,6 @@
 //! The numbered program of a tree, or why there is none.
 
-ghost use Rattle.std.specs.Prelude.{◌≡◌, ◌≤◌, ◌++◌, ℕ, length, map, flat_map, take, option_map, slice_get, is_some, List, IfOk, IfErr};
+ghost use Rattle.std.specs.Prelude.{◌≡◌, ◌≢◌, ◌≤◌, ◌++◌, ℕ, length, map, flat_map, take, option_map, slice_get, is_some, List, IfOk, IfErr, MatchResult};
 ghost use Rattle.dart_syntax.specs.View.{unit};
 ghost use Rattle.program.specs.BuiltIn.{built_in_members};
 ghost use Rattle.program.specs.Program.{parts_of, entry_named};
@@ -131,8 +131,13 @@ fn number(alloc: Global, tree: &Tree, text: &[u8]) -> Result<Numbered, NoMemory>
 pub fn resolve(alloc: Global, tree: &Tree, text: &[u8]) -> Result<Numbered, NameError>
     requires source { IsTextOf text.now (unit tree.now) }
     requires small { length text.now ≤ 1048576 }
+    // What is answered is so of the tree.
     ensures refused { IfErr result (λ e. IsRefusal (unit tree.now) e) }
     ensures accepted { IfOk result (λ _. IsAccepted (unit tree.now)) }
+    // What is so of the tree is answered, or want of memory.
+    ensures only { IsAccepted (unit tree.now) → IfErr result (λ e. e ≡ NameError.NoMemory) }
+    ensures cause { (e : NameError) → e ≢ NameError.NoMemory → IsRefusal (unit tree.now) e → MatchResult result (λ _. ⊥) (λ d. d ≢ NameError.NoMemory → d ≡ e) }
+    // The program is that of the tree.
     ensures program { IfOk result (λ n. IsNumberedOf text.now (unit tree.now) (parts_of n)) }
     ensures counts { IfOk result (λ n. counts_of_parts (parts_of n) ≡ counts (unit tree.now)) }
     ensures entries { IfOk result (λ n. (name : List ℕ) → is_some (entry_named n name) ≡ has_entry (unit tree.now) name) }
