@@ -2,6 +2,7 @@
 use Rattle.std.proofs.Common.{◌≡◌, ℕ, ◌+◌, ◌<◌, ◌≤◌, Bool, true, false, not, reverse, filter_map, List, [], ◌∷◌, ◌++◌, Option, option_map, is_some, length, map, drop, get_or, refl, sym, ap, ◌∙◌, arith, append_assoc, length-drop}
 use Rattle.std.proofs.lemmas.List.{map-append, drop_more, drop_all, reverse-append}
 use Rattle.dart_syntax.specs.declared.token.Span.{Span}
+use Rattle.dart_syntax.specs.declared.tree.Name.{Name}
 use Rattle.dart_syntax.specs.declared.tree.Expr.{Expr}
 use Rattle.dart_syntax.specs.declared.tree.Expr.TheVariants as v
 use Rattle.dart_syntax.specs.declared.tree.Expr.TheFolds.{fold_out-Expr}
@@ -92,7 +93,13 @@ exp_chain x more = fold_out-Expr t.Exp t.Selector exp_step selector_step (v.Chai
 exp_assign : (to : Expr) (a : Assignment) (at : Span) (x : Expr) → exp (v.Assign to a at x) ≡ t.assign (exp to) a at (exp x)
 exp_assign to a at x = fold_out-Expr t.Exp t.Selector exp_step selector_step (v.Assign to a at x) ∙ rw (v.outs-Assign to a at x) refl
 
+exp_super_get : (at : Span) (name : Name) → exp (v.SuperGet at name) ≡ t.super_get at name
+exp_super_get at name = fold_out-Expr t.Exp t.Selector exp_step selector_step (v.SuperGet at name) ∙ rw (v.outs-SuperGet at name)
+
 module _ (tree : Tree) (site_of : Place → ℕ) (here : Option Text) where
+  pub super_spot_form : (names : List Text) (reads_too : Bool) (at : Span) (name : Name) (spot : c.Spot) → ((ns : List Text) (place : Span) → spot ≡ num.spot tree site_of here ns reads_too (t.super_get place name)) → spot ≡ num.spot tree site_of here names reads_too (exp (v.SuperGet at name))
+  super_spot_form names reads_too at name spot each = each names at ∙ ap (num.spot tree site_of here names reads_too) (sym (exp_super_get at name))
+
   abbrev exp_at : List Text → t.Exp → c.Exp
   exp_at = num.exp tree site_of here
 

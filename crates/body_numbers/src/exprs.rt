@@ -255,7 +255,7 @@ fn spot<N: Numbers>(
 {
     match to {
         Expr::Name(name) => bare_spot(alloc, numbers, slots, reads_too, name),
-        Expr::SuperGet(at, name) => Ok(super_spot(numbers, slots, reads_too, *at, name)),
+        Expr::SuperGet(_, name) => Ok(super_spot(numbers, reads_too, name)),
         Expr::Postfix(x, more) => {
             let x = expression(alloc, numbers, slots, x.get())?;
             selected_spot(alloc, numbers, slots, reads_too, more.as_slice(), x)

@@ -1,10 +1,11 @@
 //! The parts of expressions that hold no others of the tree: calls, names, and sites.
 
-ghost use Rattle.std.specs.Prelude.{◌≡◌, [], IfOk, not};
+ghost use Rattle.std.specs.Prelude.{◌≡◌, List, [], IfOk, not};
 ghost use Rattle.std.specs.Option.{option_map};
 ghost use Rattle.dart_syntax.specs.Syntax as tree;
 ghost use Rattle.program.specs.declared.literal.Literal.TheVariants as literal;
 ghost use Rattle.program.specs.Bodies as c;
+ghost use Rattle.dart_syntax.specs.Bytes.{Text};
 ghost use Rattle.program.specs.Sound as sound;
 ghost use Rattle.dart_meaning.specs.Operators as by;
 ghost use Rattle.dart_meaning.specs.Numbering as num;
@@ -172,14 +173,8 @@ pub fn bare_spot<N: Numbers>(
 }
 
 /// A member of the superclass that is assigned to.
-pub fn super_spot<N: Numbers>(
-    numbers: &N,
-    slots: &Slots,
-    reads_too: bool,
-    at: Span,
-    name: &Name,
-) -> Spot<Boxed<Expression>>
-    ensures { spot_of result ≡ num.spot (N.tree numbers.now) (N.site_of numbers.now) (N.here numbers.now) slots.now reads_too (tree.super_get at name.now) }
+pub fn super_spot<N: Numbers>(numbers: &N, reads_too: bool, name: &Name) -> Spot<Boxed<Expression>>
+    ensures { (names : List Text) (at : _) → spot_of result ≡ num.spot (N.tree numbers.now) (N.site_of numbers.now) (N.here numbers.now) names reads_too (tree.super_get at name.now) }
 {
     let text = name.text.as_slice();
     let setter = numbers.super_number(SelectorKind::Set, text);

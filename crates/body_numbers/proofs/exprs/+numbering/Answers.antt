@@ -4,7 +4,7 @@ use Rattle.program.specs.declared.body.Piece.{Piece}
 use Rattle.program.specs.declared.body.Link.{Link}
 use Rattle.program.specs.Bodies as bodies
 use Rattle.body_numbers.specs.Views.{spot_of}
-use Rattle.body_numbers.proofs.Lists.{cut, exps_next, exps_done, pieces_next, pieces_done, links_next, links_done, joined_form, chain_form, assign_form, spot_next, spot_last}
+use Rattle.body_numbers.proofs.Lists.{cut, exps_next, exps_done, pieces_next, pieces_done, links_next, links_done, joined_form, chain_form, assign_form, spot_next, spot_last, super_spot_form}
 use Rattle.body_numbers.proofs.exprs.+numbering.Goals as goal
 
 pub expressions-loop-e-preserved : goal.expressions-loop-e-preserved
@@ -76,3 +76,9 @@ selected_spot-loop-i-preserved g t c =
     let n = c.args.numbers.now in
     let is = cut c.args.all.now c.loop-i.i c.index-all-i.result c.loop-i-test.true c.index-all-i.is in
     spot_next (g.N.Numbers.tree n) (g.N.Numbers.site_of n) (g.N.Numbers.here n) c.args.slots.now c.args.reads_too c.args.all.now c.loop-i.i c.index-all-i.result (bodies.exp c.loop-i.found) (bodies.exp c.in_ok-next.next) _ is (search (rules, arith)) c.in_ok-next.ensures c.loop-i.invariant
+
+pub spot-returns-in-SuperGet : goal.spot-returns-in-SuperGet
+spot-returns-in-SuperGet g t c =
+    let n = c.args.numbers.now in
+    let e = super_spot_form (g.N.Numbers.tree n) (g.N.Numbers.site_of n) (g.N.Numbers.here n) c.args.slots.now c.args.reads_too c.in-SuperGet.field-0 c.in-SuperGet.name _ c.super_spot.ensures in
+    search rules
