@@ -1,5 +1,5 @@
 -- Members of classes.
-use Rattle.std.proofs.Common.{◌≡◌, ℕ, Bool, true, false, not, ◌||◌, List, [], ◌∷◌, length, Option, Some, Ok, Err, refl}
+use Rattle.std.proofs.Common.{◌≡◌, ℕ, Bool, true, false, not, ◌||◌, List, [], ◌∷◌, Option, Some, Ok, Err, refl}
 use Rattle.dart_syntax.specs.declared.token.Span.{Span}
 use Rattle.dart_syntax.specs.declared.token.Sign.{Sign}
 use Rattle.dart_syntax.specs.declared.token.Sign.TheVariants as s
@@ -23,8 +23,8 @@ use Rattle.dart_syntax.specs.declared.tree.Operator.{Operator}
 use Rattle.dart_syntax.specs.declared.tree.Operator.TheVariants as op
 use Rattle.dart_syntax.specs.Derivation as gr
 use Rattle.dart_syntax.specs.Derivation.{same_text, operator_of, takes, OperatorText, Ret, is_ret, final_or_var, MemberText, Params, Rest, SomeBody}
-use Rattle.dart_parser.specs.Members.{param, params, single, bracketed, operator_by, operator, some_body, some_block, method, passed, constructor, getter, setter, counted, operator_member, field, function_member, plain_by, plain, named_member, dynamic_by, dynamic, member_by, member, value}
-use Rattle.dart_parser.proofs.Parts.{value_complete, value_sound, param_complete, param_sound, params_complete, params_sound, some_body_complete, some_body_sound, rest_complete, rest_sound}
+use Rattle.dart_parser.specs.Members.{param, params, single, bracketed, operator_by, operator, some_body, some_block, method, passed, constructor, getter, setter, operator_params, operator_member, field, function_member, plain_by, plain, named_member, dynamic_by, dynamic, member_by, member, value}
+use Rattle.dart_parser.proofs.Parts.{value_complete, value_sound, param_complete, param_sound, params_complete, params_sound, operator_params_complete, operator_params_sound, some_body_complete, some_body_sound, rest_complete, rest_sound}
 
 -- ---- operators
 
@@ -152,14 +152,14 @@ module _ (I : Reading Sta) (W : Reading Exp) (i : Parser Sta) (w : Parser Exp) (
       both o e = via o _ e (λ zs vs e1 e2. via (some_block i w vs) _ e2 (λ z ws e3 e4. rw (e1, e3) (same_ok (λ q rest. ◌≡◌ {A = Outcome Member} (Ok (tree.constructor (named n a) ps zs z, ws)) (Ok (tree.constructor (named n a) ps q.0 q.1, rest))) e4 refl)))
 
   pub member_complete : {ts rest : Tokens} {x : Member} → MemberText I W class ts x rest → member i w class ts ≡ Ok (x, rest)
-  unfolding method getter setter operator_member counted name
+  unfolding method getter setter operator_member name
   member_complete (gr.MemberText.field {w = wd} {f} {n} {a} {b} {v} {ts} {rest} is d) = field_complete wd f n a b v ts rest is d
   member_complete (gr.MemberText.method {b = b} {us = us} r not_class d1 d2) = rw (ret_method r not_class, params_complete false d1, some_body_complete I W i w good_inner good d2)
   member_complete (gr.MemberText.getter r d) = rw (ret_get r, some_body_complete I W i w good_inner good d)
   member_complete (gr.MemberText.setter {c = c} {d = m} {us = us} {vs = vs} r d1 d2) =
       rw (ret_set r, expect_it s.ParenOpen c us, param_complete d1, expect_it s.ParenClose m vs, some_body_complete I W i w good_inner good d2)
   member_complete (gr.MemberText.operator {c = c} {vs = vs} r d1 d2 may d3) =
-      rw (ret_operator r, operator_complete d1, expect_it s.ParenOpen c vs, params_complete false d2, may, some_body_complete I W i w good_inner good d3)
+      rw (ret_operator r, operator_complete d1, expect_it s.ParenOpen c vs, operator_params_complete _ d2 may, some_body_complete I W i w good_inner good d3)
   member_complete (gr.MemberText.constructor {n} {a} {b} {ps} {xs} {y} {ts} {us} {rest} is d1 d2) = made n a b ps xs y ts us rest is d1 d2
 
   -- ---- what is read is in the grammar
@@ -175,21 +175,12 @@ module _ (I : Reading Sta) (W : Reading Exp) (i : Parser Sta) (w : Parser Exp) (
       name_via us e1 (λ text m at same_n. same_ok (λ x rest. MemberText I W class ts x rest) e10
       (rw same_n (gr.MemberText.setter (rw (at, expect_ok s.ParenOpen vs e3) at r) (rw (expect_ok s.ParenClose zs e7) at (param_sound false ws e5)) (some_body_sound I W i w good_inner good qs e9)))))))))
 
-  no_bool : {y : Bool × Tokens} {r : Rattle.dart_expr.specs.declared.refusal.Refusal.Refusal} → ◌≡◌ {A = Outcome Bool} (Err r) (Ok y) → ⊥
-  no_bool e = cc
-
-  counted_ok : (o : Operator) (ps : List Param) (ts : Tokens) {b : Bool} {us : Tokens} → counted i w o ps ts ≡ Ok (b, us) → (takes o (length ps) ≡ true) × (us ≡ ts)
-  unfolding counted
-  counted_ok o ps ts e = split (takes o (length ps))
-      (λ h. same_ok (λ (b : Bool) us. (takes o (length ps) ≡ true) × (us ≡ ts)) (rw h at e) (h, refl))
-      (λ h. absurd (no_bool (rw h at e)))
-
   operator_member_sound : {r : Bool} (ts : Tokens) (a : Span) (us : Tokens) {x : Member} {rest : Tokens} → Ret ts r (keyword k.Operator a ∷ us) → operator_member i w (keyword k.Operator a ∷ us) ≡ Ok (x, rest) → MemberText I W class ts x rest
   unfolding operator_member
-  operator_member_sound ts a us r e = via (operator us) _ e (λ o vs e1 e2. via (expect s.ParenOpen vs) _ e2 (λ c ws e3 e4. via (params false ws) _ e4 (λ ps zs e5 e6. via (counted i w o.0 ps zs) _ e6 (λ z qs e7 e8.
-      let (may, same_zs) = counted_ok o.0 ps zs e7 in
-      via (some_body i w qs) _ e8 (λ b last e9 e10. same_ok (λ x rest. MemberText I W class ts x rest) e10
-      (gr.MemberText.operator r (rw (expect_ok s.ParenOpen vs e3) at (operator_sound us e1)) (params_sound false ws e5) may (rw same_zs at (some_body_sound I W i w good_inner good qs e9))))))))
+  operator_member_sound ts a us r e = via (operator us) _ e (λ o vs e1 e2. via (expect s.ParenOpen vs) _ e2 (λ c ws e3 e4. via (operator_params o.0 ws) _ e4 (λ ps zs e5 e6.
+      let (reads, may) = operator_params_sound o.0 ws e5 in
+      via (some_body i w zs) _ e6 (λ b last e7 e8. same_ok (λ x rest. MemberText I W class ts x rest) e8
+      (gr.MemberText.operator r (rw (expect_ok s.ParenOpen vs e3) at (operator_sound us e1)) reads may (some_body_sound I W i w good_inner good zs e7))))))
 
   method_sound : {r : Bool} (ts : Tokens) (n : List ℕ) (a b : Span) (us : Tokens) {x : Member} {rest : Tokens} → Ret ts r (token (tk.Name n) a ∷ sign s.ParenOpen b ∷ us) → (r || not (same_text n class)) ≡ true
       → method i w (named n a) us ≡ Ok (x, rest) → MemberText I W class ts x rest

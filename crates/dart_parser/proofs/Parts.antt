@@ -1,11 +1,14 @@
 -- Literals, parameters and bodies: what the grammar has is read, and what is read is in the grammar.
-use Rattle.std.proofs.Common.{◌≡◌, ℕ, ◌<◌, Bool, true, false, List, [], ◌∷◌, length, Option, Some, None, Ok, Err, refl, ap, arith}
+use Rattle.std.proofs.Common.{◌≡◌, ℕ, ◌<◌, ◌≤◌, Bool, true, false, List, [], ◌∷◌, length, Option, Some, None, Ok, Err, refl, sym, ap, arith}
+use Rattle.std.proofs.lemmas.Bool.Decides.{nat_tests}
 use Rattle.dart_syntax.specs.declared.token.Span.{Span}
 use Rattle.dart_syntax.specs.declared.token.Sign.TheVariants as s
 use Rattle.dart_syntax.specs.declared.token.Keyword.{Keyword}
 use Rattle.dart_syntax.specs.declared.token.Keyword.TheVariants as k
 use Rattle.dart_syntax.specs.declared.token.TokenKind.{TokenKind}
 use Rattle.dart_syntax.specs.declared.token.TokenKind.TheVariants as tk
+use Rattle.dart_syntax.specs.declared.tree.Operator.{Operator}
+use Rattle.dart_syntax.specs.declared.tree.Operator.TheVariants as op
 use Rattle.dart_syntax.specs.Syntax as tree
 use Rattle.dart_syntax.specs.Syntax.{Param, Exp, Sta, Stas, Passed, Body, a_param}
 use Rattle.dart_syntax.specs.Words.{Tokens, token, sign, keyword}
@@ -13,6 +16,7 @@ use Rattle.dart_syntax.specs.Operators.{named}
 use Rattle.dart_syntax.specs.Grammar.{Reading, Args, is_var}
 use Rattle.dart_expr.specs.Input.{Parser, Outcome, and_then, many_from, same, sees, sees_keyword, after, expect, span, next}
 use Rattle.dart_expr.specs.Model.{name, args}
+use Rattle.dart_expr.specs.declared.refusal.Refusal.{Refusal}
 use Rattle.dart_parser.specs.Statements.{item}
 use Rattle.dart_expr.proofs.Facts.{sees_it, after_it, after_not, after_seen, expect_it, seen, expect_ok, sees_keyword_it, after_keyword_it, seen_keyword, after_keyword_seen, same_ok, split, via, some_not_none, none_not_some}
 use Rattle.dart_expr.proofs.Good.{Good, grip}
@@ -21,8 +25,8 @@ use Rattle.dart_expr.proofs.Terms.{name_via, paren_args, paren_args_sound, paren
 use Rattle.dart_expr.proofs.Lists.{args_shorter}
 use Rattle.dart_parser.proofs.Stmts.{GoodStmt, items_good, not_brace}
 use Rattle.dart_syntax.specs.Derivation as gr
-use Rattle.dart_syntax.specs.Derivation.{Literal, Value, Listed, ParamText, Params, Block, BodyText, SomeBody, SomeBlock, Rest}
-use Rattle.dart_parser.specs.Members.{minus_by, minus, literal_by, literal, given, value, param_name, param_by, param, listed, param_item, param_items, params, statements, block, body, some_body, some_block, passed}
+use Rattle.dart_syntax.specs.Derivation.{takes, Literal, Value, Listed, ParamText, Params, Block, BodyText, SomeBody, SomeBlock, Rest}
+use Rattle.dart_parser.specs.Members.{minus_by, minus, literal_by, literal, given, value, param_name, param_by, param, listed, param_item, param_items, params, most, counted, operator_params, statements, block, body, some_body, some_block, passed}
 
 abbrev Some_is : {A : Type 0} → (A → Type 0) → Option A → Type 0
 Some_is P None = Unit {0}
@@ -199,6 +203,39 @@ unfolding params param_items
 params_sound c ts e = via (many_from (param_item c) (length ts) [] ts) _ e (λ xs us e1 e2. via (expect s.ParenClose us) _ e2 (λ b vs e3 e4.
     many_via (Listed s.ParenClose (ParamText c)) (param_item c) _ _ (items_step c) (length ts) ts e1 (λ zs is reads few.
     same_ok (λ xs rest. Params c ts xs rest) e4 (rw is (gr.Params.params (rw (expect_ok s.ParenClose us e3) at reads))))))
+
+-- ---- parameters of operators
+
+few : (o : Operator) (n : ℕ) → takes o n ≡ true → n ≤ most o
+few op.Set n h = grind (arith, nat_tests)
+few op.Complement n h = grind (arith, nat_tests)
+few op.Subtract n h = grind (arith, nat_tests)
+few _ n h = grind (arith, nat_tests)
+
+pub operator_params_complete : (o : Operator) {ts rest : Tokens} {ps : List Param} → Params false ts ps rest → takes o (length ps) ≡ true → operator_params o ts ≡ Ok (ps, rest)
+unfolding operator_params param_items counted
+operator_params_complete o (gr.Params.params {a} {xs} {ts} {rest} ds) may =
+    rw (
+      many_complete (Listed s.ParenClose (ParamText false)) (param_item false) _ _ (items_step false) (most o) [] ds (sees_it s.ParenClose a rest) (few o (length xs) may),
+      may,
+      expect_it s.ParenClose a rest,
+    )
+
+no_bool : {y : Bool × Tokens} {r : Refusal} → ◌≡◌ {A = Outcome Bool} (Err r) (Ok y) → ⊥
+no_bool e = cc
+
+counted_ok : (o : Operator) (ps : List Param) (ts : Tokens) {b : Bool} {us : Tokens} → counted o ps ts ≡ Ok (b, us) → (takes o (length ps) ≡ true) × (us ≡ ts)
+unfolding counted
+counted_ok o ps ts e = split (takes o (length ps))
+    (λ h. same_ok (λ (b : Bool) us. (takes o (length ps) ≡ true) × (us ≡ ts)) (rw h at e) (h, refl))
+    (λ h. absurd (no_bool (rw h at e)))
+
+pub operator_params_sound : (o : Operator) (ts : Tokens) {ps : List Param} {rest : Tokens} → operator_params o ts ≡ Ok (ps, rest) → (Params false ts ps rest) × (takes o (length ps) ≡ true)
+unfolding operator_params param_items
+operator_params_sound o ts e = via (many_from (param_item false) (most o) [] ts) _ e (λ xs us e1 e2. via (counted o xs us) _ e2 (λ z vs e3 e4. via (expect s.ParenClose vs) _ e4 (λ b ws e5 e6.
+    let (may, same_us) = counted_ok o xs us e3 in
+    many_via (Listed s.ParenClose (ParamText false)) (param_item false) _ _ (items_step false) (most o) ts e1 (λ zs is reads few.
+    same_ok (λ ps rest. (Params false ts ps rest) × (takes o (length ps) ≡ true)) e6 (rw is (gr.Params.params (rw (sym same_us, expect_ok s.ParenClose vs e5) at reads)), may)))))
 
 pub params_shorter : (c : Bool) {ts rest : Tokens} {xs : List Param} → Params c ts xs rest → length rest < length ts
 params_shorter c (gr.Params.params ds) = omega (arith, many_shorter (Listed s.ParenClose (ParamText c)) (param_item c) _ _ (items_step c) ds)

@@ -72,12 +72,13 @@ listed close x = λ ts. if sees s.Comma ts then Ok (Some x, next ts) else (if se
 unfoldable pub param_item : Bool → Parser (Option Param)
 param_item c = λ ts. if sees s.ParenClose ts then Ok (None, ts) else (param c >>= listed s.ParenClose) ts
 
-unfoldable pub param_items : Bool → Parser (List Param)
-param_items c = λ ts. many_from (param_item c) (length ts) [] ts
+-- so many at most
+unfoldable pub param_items : Bool → ℕ → Parser (List Param)
+param_items c most = λ ts. many_from (param_item c) most [] ts
 
 unfoldable pub params : Bool → Parser (List Param)
 params c = do
-  xs ← param_items c
+  xs ← (λ ts. param_items c (length ts) ts)
   expect s.ParenClose
   pure xs
 
@@ -101,6 +102,24 @@ operator_by _ = refuse
 
 unfoldable pub operator : Parser (Operator × Span)
 operator = λ ts. operator_by (kind ts) ts
+
+-- no operator has more parameters
+abbrev pub most : Operator → ℕ
+most op.Set = 2
+most op.Complement = 0
+most _ = 1
+
+-- an operator has so many parameters
+unfoldable pub counted : Operator → List Param → Parser Bool
+counted o ps = if takes o (length ps) then pure true else refuse
+
+-- What is one too many is refused, and the parenthesis where one is wanting.
+unfoldable pub operator_params : Operator → Parser (List Param)
+operator_params o = do
+  ps ← param_items false (most o)
+  counted o ps
+  expect s.ParenClose
+  pure ps
 
 module _ (inner : Parser Sta) (whole : Parser Exp) where
   unfoldable pub statements : Parser (List Sta)
@@ -171,17 +190,12 @@ module _ (inner : Parser Sta) (whole : Parser Exp) where
     expect s.ParenClose
     tree.setter n p <$> some_body
 
-  -- an operator has so many parameters
-  unfoldable pub counted : Operator → List Param → Parser Bool
-  counted o ps = if takes o (length ps) then pure true else refuse
-
   unfoldable pub operator_member : Parser Member
   operator_member = do
     take
     o ← operator
     expect s.ParenOpen
-    ps ← params false
-    counted o.0 ps
+    ps ← operator_params o.0
     tree.operator o.0 o.1 ps <$> some_body
 
   unfoldable pub field : Bool → Name → Parser Member

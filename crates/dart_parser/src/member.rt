@@ -9,7 +9,7 @@ ghost use Rattle.dart_parser.specs.Members as spec;
 
 use crate::bodies::{LEVELS, some_block, some_body};
 use crate::literals::value;
-use crate::operators::{operator, takes};
+use crate::operators::{operator, operator_params};
 use crate::params::{param, params};
 use dart_expr::Refusal;
 use dart_expr::cursor::Cursor;
@@ -74,17 +74,14 @@ fn setter(alloc: Global, tokens: &mut Cursor<'_>) -> Result<Member, Refusal>
     Ok(Member::Setter(name, param, some_body(alloc, tokens)?))
 }
 
-#[tactic(auto, unfolding(crate::specs::Members::operator_member, crate::specs::Members::counted))]
+#[tactic(auto, unfolding(crate::specs::Members::operator_member))]
 fn operator_member(alloc: Global, tokens: &mut Cursor<'_>) -> Result<Member, Refusal>
     ensures { Reads view.member (spec.operator_member (stmt LEVELS) (expr LEVELS) tokens.old) result tokens.new }
 {
     tokens.skip();
     let (operator, at) = operator(tokens)?;
     tokens.expect(Sign::ParenOpen)?;
-    let params = params(alloc, tokens, false)?;
-    if !takes(operator, params.len()) {
-        return Err(tokens.refuse());
-    }
+    let params = operator_params(alloc, tokens, operator)?;
     Ok(Member::Operator(operator, at, params, some_body(alloc, tokens)?))
 }
 

@@ -1,14 +1,18 @@
 //! The operators that a class may declare.
 
-ghost use Rattle.std.specs.Prelude.{◌≡◌};
+ghost use Rattle.std.specs.Prelude.{◌≡◌, map};
 ghost use Rattle.dart_syntax.specs.Derivation as grammar;
+ghost use Rattle.dart_syntax.specs.View as view;
 ghost use Rattle.dart_expr.specs.Input.{Reads};
 ghost use Rattle.dart_parser.specs.Members as spec;
 
+use crate::params::param_items;
 use dart_expr::Refusal;
 use dart_expr::cursor::Cursor;
 use dart_syntax::token::{Sign, Span, TokenKind};
-use dart_syntax::tree::Operator;
+use dart_syntax::tree::{Operator, Param};
+use sqlite_items::Items;
+use std::alloc::Global;
 
 fn operator_of(sign: Sign) -> Option<Operator>
     ensures { result ≡ grammar.operator_of sign }
@@ -35,8 +39,19 @@ fn operator_of(sign: Sign) -> Option<Operator>
     }
 }
 
+/// No operator has more parameters.
+fn most(operator: Operator) -> usize
+    ensures { result ≡ spec.most operator }
+{
+    match operator {
+        Operator::Set => 2,
+        Operator::Complement => 0,
+        _ => 1,
+    }
+}
+
 /// Whether the operator may have so many parameters.
-pub(crate) fn takes(operator: Operator, count: usize) -> bool
+fn takes(operator: Operator, count: usize) -> bool
     ensures { result ≡ grammar.takes operator count }
 {
     match operator {
@@ -75,4 +90,21 @@ pub(crate) fn operator(tokens: &mut Cursor<'_>) -> Result<(Operator, Span), Refu
         },
         _ => Err(tokens.refuse()),
     }
+}
+
+/// The parameters of an operator. What is one too many is refused, and the parenthesis where one is wanting.
+#[tactic(auto, unfolding(crate::specs::Members::operator_params, crate::specs::Members::counted))]
+pub(crate) fn operator_params(
+    alloc: Global,
+    tokens: &mut Cursor<'_>,
+    operator: Operator,
+) -> Result<Items<Param>, Refusal>
+    ensures { Reads (map view.param) (spec.operator_params operator tokens.old) result tokens.new }
+{
+    let found = param_items(alloc, tokens, false, most(operator))?;
+    if !takes(operator, found.len()) {
+        return Err(tokens.refuse());
+    }
+    tokens.expect(Sign::ParenClose)?;
+    Ok(found)
 }

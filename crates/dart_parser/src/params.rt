@@ -88,16 +88,18 @@ fn param_item(
     listed(tokens, x)
 }
 
+/// Parameters up to the parenthesis, and no more than so many.
 #[tactic(auto, unfolding(crate::specs::Members::param_items))]
-fn param_items(
+pub(crate) fn param_items(
     alloc: Global,
     tokens: &mut Cursor<'_>,
     of_constructor: bool,
+    most: usize,
 ) -> Result<Items<Param>, Refusal>
-    ensures { Reads (map view.param) (spec.param_items of_constructor tokens.old) result tokens.new }
+    ensures { Reads (map view.param) (spec.param_items of_constructor most tokens.old) result tokens.new }
 {
     let mut found = Items::new(alloc);
-    for _turn in 0..tokens.left() {
+    for _turn in 0..most {
         match param_item(alloc, tokens, of_constructor)? {
             Some(x) => found.push(x)?,
             None => return Ok(found),
@@ -114,7 +116,8 @@ pub(crate) fn params(
 ) -> Result<Items<Param>, Refusal>
     ensures { Reads (map view.param) (spec.params of_constructor tokens.old) result tokens.new }
 {
-    let found = param_items(alloc, tokens, of_constructor)?;
+    let most = tokens.left();
+    let found = param_items(alloc, tokens, of_constructor, most)?;
     tokens.expect(Sign::ParenClose)?;
     Ok(found)
 }

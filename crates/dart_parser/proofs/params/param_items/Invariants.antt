@@ -5,4 +5,4 @@ use Rattle.dart_parser.specs.Members.{param_item, param_items}
 use Rattle.dart_parser.proofs.params.param_items.Given as goal
 
 abbrev pub invariant-loop-turn : goal.invariant-loop-turn
-invariant-loop-turn l = param_items l.of_constructor l.fn.tokens ≡ many_from (param_item l.of_constructor) (l._turn-end - l._turn) (map view.param l.found) l.tokens
+invariant-loop-turn l = param_items l.of_constructor l.most l.fn.tokens ≡ many_from (param_item l.of_constructor) (l.most - l._turn) (map view.param l.found) l.tokens
