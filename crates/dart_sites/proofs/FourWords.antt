@@ -1,8 +1,8 @@
 -- One word and four words, and what they ask for.
-use Rattle.std.proofs.Common.{◌≡◌, ℕ, ◌≤◌, ◌<◌, ◌-◌, ◌^◌, List, [], ◌∷◌, length, get_or, ap, refl, sym, subst, arith, codes}
+use Rattle.std.proofs.Common.{◌≡◌, ℕ, ◌≤◌, ◌<◌, ◌-◌, ◌^◌, List, [], ◌∷◌, length, get_or, ap, sym, subst, arith, codes}
 use Rattle.std.specs.Prelude.{String, string_bytes}
 use Rattle.std.specs.declared.alloc.Global.{Global}
-use Rattle.dart_sites.specs.Words.{texts, four, Asks, AsksRun, IsNumber}
+use Rattle.dart_sites.specs.Words.{four, Asks, AsksRun, IsNumber}
 use Rattle.dart_sites.specs.declared.words.Request.{Request}
 use Rattle.dart_sites.specs.declared.words.Request.TheVariants.{Check, Run}
 

@@ -1,6 +1,5 @@
 -- What a tree is refused for: the rule that an error names is the one that the tree breaks first, and a missing entry is the first.
-use Rattle.std.proofs.Common.{◌≡◌, ℕ, Bool, true, false, not, ◌||◌, List, [], ◌∷◌, map, Option, Some, None, is_some, option_map, refl, ap, ◌∙◌}
-use Rattle.std.specs.List.{list_any}
+use Rattle.std.proofs.Common.{◌≡◌, ℕ, true, false, List, [], ◌∷◌, Option, Some, None, is_some, option_map, refl, ◌∙◌}
 use Rattle.dart_sites.specs.Refusals.{missing}
 use Rattle.dart_syntax.specs.declared.token.Span.{Span}
 use Rattle.dart_syntax.specs.Syntax.{Tree}

@@ -1,7 +1,5 @@
 -- The lines of what a tree is refused for, and the line of `check`.
-use Rattle.std.specs.Prelude.{◌≡◌, ℕ, Bool, true, false, not, ◌&&◌, ◌||◌, nat_eq, length, List, [], ◌∷◌, ◌++◌, find, Option, Some, None, codes}
-use Rattle.std.specs.List.{list_any}
-use Rattle.std.specs.Str.{bytes_eq}
+use Rattle.std.specs.Prelude.{ℕ, not, List, ◌++◌, find, Option, codes}
 use Rattle.std.specs.Fmt.{decimal}
 use Rattle.dart_syntax.specs.declared.token.Span.{Span}
 use Rattle.dart_syntax.specs.Syntax.{Tree}

@@ -1,5 +1,5 @@
 // From the bytes of a source to the text of a request.
-ghost use Rattle.std.specs.Prelude.{◌≡◌, ◌≤◌, ◌<◌, ℕ, List, length, IfOk, IfSome, Some, is_some, true, false, codes};
+ghost use Rattle.std.specs.Prelude.{◌≡◌, ◌≤◌, ◌<◌, ℕ, List, length, IfOk, IfSome, Some, option_map, is_some, true, false, codes};
 ghost use Rattle.dart_syntax.specs.View.{unit};
 ghost use Rattle.first_form.specs.Names.{IsNamed};
 ghost use Rattle.first_run.specs.Numbering.{IsProgramOf, body_from};
@@ -10,7 +10,7 @@ ghost use Rattle.static_rules.specs.Accepted.{IsAccepted, counts, failing};
 ghost use Rattle.program.specs.Program.{entry_named, parts_of};
 ghost use Rattle.resolver.specs.Counted.{counts_of_parts};
 ghost use Rattle.resolver.specs.Entries.{has_entry};
-ghost use Rattle.resolver.specs.Refusals.{IsRefusal, finding};
+ghost use Rattle.resolver.specs.Refusals.{IsRefusal, broken, finding};
 ghost use Rattle.dart_sites.specs.Top.{OutcomeSays};
 
 use crate::refusals::{check_text, entry_line, limit_line, rule_line, unbuilt_line};
@@ -190,7 +190,8 @@ fn check_tree(alloc: Global, source: &[u8], tree: &Tree, program: &Numbered) -> 
 /// The rule that the tree breaks first, and where.
 fn broken_of(tree: &Tree, error: NameError) -> Option<Broken>
     requires { IsRefusal (unit tree.now) error }
-    ensures { IfSome result (λ b. failing (unit tree.now) ≡ Some (finding b)) }
+    ensures exact { option_map finding result ≡ broken error }
+    ensures first { IfSome result (λ b. failing (unit tree.now) ≡ Some (finding b)) }
 {
     error.broken()
 }
@@ -239,6 +240,30 @@ fn refused_tree(
     }
 }
 
+/// What a request says of an accepted source.
+fn tell_program(
+    alloc: Global,
+    request: Request,
+    source: &[u8],
+    tree: &Tree,
+    program: Numbered,
+) -> Outcome
+    requires source { length source.now ≤ 1048576 }
+    requires tree { IsTreeOf source.now (unit tree.now) }
+    requires accepted { IsAccepted (unit tree.now) }
+    requires counts { counts_of_parts (parts_of program) ≡ counts (unit tree.now) }
+    requires entries { (name : List ℕ) → is_some (entry_named program name) ≡ has_entry (unit tree.now) name }
+    ensures { OutcomeSays request source.now result }
+{
+    let told = match request {
+        Request::Check => check_tree(alloc, source, tree, &program),
+        Request::Run { turns } => run_tree(alloc, source, tree, &program, turns),
+    };
+    // A chain of selectors nests as deep as it is long, and to take it apart would need as much stack.
+    std::mem::forget(program);
+    told
+}
+
 /// What a request says of a source with this tree.
 fn tell_tree(alloc: Global, request: Request, source: &[u8], tree: &Tree) -> Outcome
     requires source { length source.now ≤ 1048576 }
@@ -247,10 +272,7 @@ fn tell_tree(alloc: Global, request: Request, source: &[u8], tree: &Tree) -> Out
 {
     match resolve(alloc, tree, source) {
         Err(error) => refused_tree(alloc, request, source, tree, error),
-        Ok(program) => match request {
-            Request::Check => check_tree(alloc, source, tree, &program),
-            Request::Run { turns } => run_tree(alloc, source, tree, &program, turns),
-        },
+        Ok(program) => tell_program(alloc, request, source, tree, program),
     }
 }
 

@@ -1,4 +1,4 @@
-use Rattle.std.proofs.Common.{◌∙◌, ap, codes, is_some, sym}
+use Rattle.std.proofs.Common.{◌∙◌, ap, codes, is_some}
 use Rattle.dart_sites.proofs.Refusing.{some_mapped}
 use Rattle.dart_sites.proofs.telling.has_main.Goals as goal
 
