@@ -263,7 +263,7 @@ fn print_tops(alloc: Global, out: &mut Vec<u8>, all: &[Top]) -> Result<(), Alloc
 /// The canonical text of the tree.
 pub fn print_tree(alloc: Global, tree: &Tree) -> Result<Vec<u8>, NoMemory>
     ensures text { IfOk result (λ out. out.items ≡ text.text (view.unit tree.now)) }
-    // Where some list of tokens derives the tree, the text has a token list, and that list derives the tree again, spans aside.
+    // Where some list of possible tokens derives the tree, the text has a token list, and that list derives the tree again, spans aside.
     ensures reads_back { IfOk result (λ out. (list : List Token) → ArePossible list → Derives list (view.unit tree.now) → ReadsBack out.items (view.unit tree.now)) }
 {
     canonical_text_reads_back();
