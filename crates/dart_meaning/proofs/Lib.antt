@@ -8,3 +8,7 @@ pub mod Slots
 pub mod Blocks
 pub mod CallsAgree
 pub mod ExpsAgree
+pub mod StasAgree
+pub mod BodiesAgree
+pub mod BuiltInAgree
+pub mod ExampleAgrees

@@ -1,5 +1,6 @@
 //! Laws of the meaning. Each is for every tree, every entry and every number of turns, and so its function does nothing.
 
+ghost use Rattle.dart_meaning.specs.Agree.{NumberedIsSame, BuiltInStandsForNothing};
 ghost use Rattle.dart_meaning.specs.Laws.{FewerTurnsTellAFront, EnoughTurnsAreEnough, OutOfTurnsSpendsAll, AskedAtSites, AskedAtSitesOfTree};
 
 /// More turns only add to what an entry does.
@@ -13,4 +14,10 @@ pub fn more_turns_go_on()
 pub fn calls_are_at_sites()
     ensures numbering { AskedAtSites }
     ensures tree { AskedAtSitesOfTree }
+{}
+
+/// A numbered program that stands for a tree does what the tree does. There is one for the tree that declares nothing.
+pub fn numbered_does_the_same()
+    ensures same { NumberedIsSame }
+    ensures built_in { BuiltInStandsForNothing }
 {}
