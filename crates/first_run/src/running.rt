@@ -98,22 +98,23 @@ fn constant_in(e: &Expression) -> i64
 {
     match e {
         Expression::Constant(literal) => number_in(literal),
-        Expression::This
+Expression::This
         | Expression::Local(_)
         | Expression::Global(_)
-        | Expression::Str(_, _)
-        | Expression::Function(_, _)
+        | Expression::Interpolation(_, _)
+        | Expression::CallFunction(_, _)
         | Expression::Print(_)
-        | Expression::Make(_, _)
-        | Expression::Above(_, _)
+        | Expression::New(_, _)
+        | Expression::Super(_, _)
         | Expression::List(_)
-        | Expression::Send(_, _, _)
+        | Expression::Postfix(_, _)
         | Expression::Chain(_, _)
-        | Expression::Deny(_)
+        | Expression::Not(_)
         | Expression::Is(_, _, _)
-        | Expression::Choice(_, _, _)
-        | Expression::Assign(_, _, _)
-        | Expression::Step(_, _, _)
+        | Expression::Conditional(_, _, _)
+        | Expression::Assign(_, _)
+        | Expression::CompoundAssign(_, _, _)
+        | Expression::Increment(_, _, _)
         | Expression::Throw(_) => 0,
     }
 }
