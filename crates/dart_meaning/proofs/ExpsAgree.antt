@@ -43,7 +43,7 @@ use Rattle.dart_meaning.proofs.CallsAgree.{Enters, user_classes, number_in}
 
 -- ---- the function of a name, and its place
 
-abbrev IsAt : {A : Type 0} → ℕ → List A → A → ℕ → Type 0
+abbrev pub IsAt : {A : Type 0} → ℕ → List A → A → ℕ → Type 0
 IsAt n xs x i = (j : ℕ) × (i ≡ n + j) × (slice_get xs j ≡ Some x)
 
 shift : {A : Type 0} (n : ℕ) (x : A) (xs : List A) (o : Option A) (i : Option ℕ) → BothOrNone (IsAt (n + 1) xs) o i → BothOrNone (IsAt n (x ∷ xs)) o i
@@ -57,14 +57,14 @@ place_step : {A : Type 0} (n : ℕ) (x : A) (xs : List A) (b : Bool) (more : Lis
 place_step n x xs true more i h = (0, omega arith, refl)
 place_step n x xs false more i h = shift n x xs (first_some more) i h
 
-first_place : {A : Type 0} (q : A → Bool) (n : ℕ) (xs : List A) → BothOrNone (IsAt n xs) (first_some (map (λ x. if_so (q x) x) xs)) (position_from q n xs)
+pub first_place : {A : Type 0} (q : A → Bool) (n : ℕ) (xs : List A) → BothOrNone (IsAt n xs) (first_some (map (λ x. if_so (q x) x) xs)) (position_from q n xs)
 first_place q n [] = tt
 first_place q n (x ∷ xs) = place_step n x xs (q x) (map (λ y. if_so (q y) y) xs) (position_from q (n + 1) xs) (first_place q (n + 1) xs)
 
-abbrev StandsAt : {A : Type 0} → List A → A → ℕ → Type 0
+abbrev pub StandsAt : {A : Type 0} → List A → A → ℕ → Type 0
 StandsAt xs x i = slice_get xs i ≡ Some x
 
-from_front : {A : Type 0} (xs : List A) (o : Option A) (i : Option ℕ) → BothOrNone (IsAt 0 xs) o i → BothOrNone (StandsAt xs) o i
+pub from_front : {A : Type 0} (xs : List A) (o : Option A) (i : Option ℕ) → BothOrNone (IsAt 0 xs) o i → BothOrNone (StandsAt xs) o i
 from_front xs None None h = tt
 from_front xs (Some y) (Some i) (j, e, at) = let same : j ≡ i = omega (arith, e) in subst (λ k. slice_get xs k ≡ Some y) same at
 from_front xs (Some y) None h = absurd h

@@ -98,7 +98,7 @@ fn constant_in(e: &Expression) -> i64
 {
     match e {
         Expression::Constant(literal) => number_in(literal),
-Expression::This
+        Expression::This
         | Expression::Local(_)
         | Expression::Global(_)
         | Expression::Interpolation(_, _)

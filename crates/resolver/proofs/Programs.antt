@@ -8,7 +8,7 @@ use Rattle.program.specs.Whole.{IsSound}
 use Rattle.dart_values.specs.Values.{Text}
 use Rattle.dart_meaning.specs.Classes.{built_in_names, class_names, classes, functions}
 use Rattle.dart_meaning.specs.Entry.{globals_of}
-use Rattle.dart_meaning.specs.Numbered.{literal}
+use Rattle.dart_meaning.specs.Literals.{literal}
 use Rattle.dart_meaning.specs.Uses as u
 use Rattle.name_uses.specs.Looked.{looked}
 use Rattle.name_uses.proofs.Looked.{looked_parts}
