@@ -5,10 +5,10 @@ use Rattle.dart_syntax.specs.declared.token.Span.{Span}
 use Rattle.dart_syntax.specs.declared.tree.Name.{Name}
 use Rattle.dart_syntax.specs.declared.tree.Unary.{Unary}
 use Rattle.dart_syntax.specs.declared.tree.Unary.TheVariants as unary
-use Rattle.dart_syntax.specs.declared.tree.Binary.{Binary}
-use Rattle.dart_syntax.specs.declared.tree.Binary.TheVariants as binary
 use Rattle.dart_syntax.specs.Syntax as t
 use Rattle.dart_syntax.specs.Syntax.{Exp, Exps, Pieces, Links, Selectors, Selector, First, Sta, Stas, Param, Body, Passed, Member, ClassDecl, Top, Tree}
+use Rattle.program.specs.declared.body.BinaryOperator.{BinaryOperator}
+use Rattle.dart_meaning.specs.Operators.{operator_of, compound, step_operator}
 use Rattle.dart_meaning.specs.Uses as u
 use Rattle.dart_meaning.specs.Uses.{Use, Part, Scope, parts}
 use Rattle.dart_meaning.specs.Means.{means, is_of_this}
@@ -63,12 +63,7 @@ module _ (most : ℕ) where
   prefix_few unary.Complement at x = (tt, tt)
   prefix_few unary.Minus at x = (elim (u.is_number x) as (λ b. AreFew (cond b [] (u.prefixes unary.Minus at ∷ []))) [ true ↦ tt | false ↦ (tt, tt) ])
 
-  link_few : (op : Binary) (at : Span) → AreFew (u.link_use op at)
-  link_few binary.And at = tt
-  link_few binary.Or at = tt
-  link_few _ at = (tt, tt)
-
-  operator_few : (op : Option Binary) (at : Span) → AreFew (u.operator_use op at)
+  operator_few : (op : Option BinaryOperator) (at : Span) → AreFew (u.operator_use op at)
   operator_few None at = tt
   operator_few (Some op) at = (tt, tt)
 
@@ -93,15 +88,15 @@ module _ (most : ℕ) where
       exp_few (t.paren e) h = exp_few e h
       exp_few (t.list at items) h = exps_few items (omega (arith, h))
       exp_few (t.postfix e more) h = join (u.exp scope e) (u.selectors scope more) (exp_few e (omega (arith, h))) (selectors_few more (omega (arith, h)))
-      exp_few (t.step before op at to) h = join (u.target scope true to) (u.operates (u.step_operator op) at ∷ []) (target_few true to (omega (arith, h))) (tt, tt)
+      exp_few (t.step before op at to) h = join (u.target scope true to) (u.operates (step_operator op) at ∷ []) (target_few true to (omega (arith, h))) (tt, tt)
       exp_few (t.unary op at e) h = join (u.prefix_use op at e) (u.exp scope e) (prefix_few op at e) (exp_few e (omega (arith, h)))
       exp_few (t.chain e more) h = join (u.exp scope e) (u.links scope more) (exp_few e (omega (arith, h))) (links_few more (omega (arith, h)))
       exp_few (t.is e denied at n) h = join (u.exp scope e) (u.names_class n ∷ []) (exp_few e (omega (arith, h))) (tt, tt)
       exp_few (t.choice x y z) h =
           join (u.exp scope x) (u.exp scope y ++ u.exp scope z) (exp_few x (omega (arith, h))) (join (u.exp scope y) (u.exp scope z) (exp_few y (omega (arith, h))) (exp_few z (omega (arith, h))))
       exp_few (t.assign to op at e) h =
-          join (u.target scope (is_some (u.operator_of op)) to) (u.operator_use (u.operator_of op) at ++ u.exp scope e) (target_few (is_some (u.operator_of op)) to (omega (arith, h)))
-          (join (u.operator_use (u.operator_of op) at) (u.exp scope e) (operator_few (u.operator_of op) at) (exp_few e (omega (arith, h))))
+          join (u.target scope (is_some (compound op)) to) (u.operator_use (compound op) at ++ u.exp scope e) (target_few (is_some (compound op)) to (omega (arith, h)))
+          (join (u.operator_use (compound op) at) (u.exp scope e) (operator_few (compound op) at) (exp_few e (omega (arith, h))))
       exp_few (t.throw at e) h = exp_few e (omega (arith, h))
 
       exps_few : (es : Exps) → exps_nodes es < most → AreFew (u.exps scope es)
@@ -115,7 +110,7 @@ module _ (most : ℕ) where
       links_few : (more : Links) → links_nodes more < most → AreFew (u.links scope more)
       links_few t.no_link h = tt
       links_few (t.link op at e more) h =
-          join (u.link_use op at) (u.exp scope e ++ u.links scope more) (link_few op at) (join (u.exp scope e) (u.links scope more) (exp_few e (omega (arith, h))) (links_few more (omega (arith, h))))
+          join (u.operator_use (operator_of op) at) (u.exp scope e ++ u.links scope more) (operator_few (operator_of op) at) (join (u.exp scope e) (u.links scope more) (exp_few e (omega (arith, h))) (links_few more (omega (arith, h))))
 
       selector_few : (s : Selector) → selector_nodes s < most → AreFew (u.selector scope s)
       selector_few (t.get n) h = (tt, tt)
