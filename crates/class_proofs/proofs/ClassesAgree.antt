@@ -19,10 +19,11 @@ use Rattle.program.specs.Whole.{IsNamed}
 use Rattle.program.proofs.Each.{ascii, and_both}
 use Rattle.dart_values.specs.Values.{Text, Value}
 use Rattle.dart_meaning.specs.Place.{Place}
-use Rattle.dart_meaning.specs.Classes.{class_names, class_name, class_number, class_numbers, class_count, built_in_names, object, parent, interfaces_of, chain, chain_above, own_fields, fields, literal_or_null, constructor_of, no_constructor, of_tree, if_so}
+use Rattle.dart_meaning.specs.Classes.{class_names, class_name, class_number, class_numbers, class_count, built_in_names, object, parent, interfaces_of, chain, chain_above, own_fields, fields, constructor_of, no_constructor, of_tree, if_so}
 use Rattle.dart_meaning.specs.Classes as classes
 use Rattle.dart_meaning.specs.Numbered as n
-use Rattle.dart_meaning.specs.Numbered.{literal, of_numbered, class_above}
+use Rattle.dart_meaning.specs.Numbered.{of_numbered, class_above}
+use Rattle.dart_meaning.specs.Literals.{literal, literal_or_null}
 use Rattle.dart_meaning.specs.Agree.{BothOrNone, IsCode, IsConstructor, MayBeConstructor, above}
 use Rattle.static_rules.specs.Accepted.{counts, exceeded}
 use Rattle.static_rules.specs.declared.rule.Limit.{Limit}
@@ -92,7 +93,7 @@ module _ (text : List ℕ) (tree : Tree) (p : Parts) (keeps : KeepsClasses tree)
 
   -- ---- fields
 
-  own_values : (x : Text) → Known tree x → n.own_fields p (number x) ≡ map value_of (own_fields tree x)
+  own_values : (x : Text) → Known tree x → n.own_values p (number x) ≡ map value_of (own_fields tree x)
   own_values x known =
       let k = class_there text tree p keeps is x known in
       ap (λ (o : Option Class). unwrap_or (option_map (λ (k : Class). map (λ (f : Field). literal f.value) k.fields) o) []) k.1
@@ -100,13 +101,13 @@ module _ (text : List ℕ) (tree : Tree) (p : Parts) (keeps : KeepsClasses tree)
       ∙ ap (λ (f : ClassForm). map (λ (f : FieldForm). f.value) f.fields) k.2
       ∙ map_twice (numbered_field tree) (λ (f : FieldForm). f.value) (own_fields tree x)
 
-  values_of : (xs : List Text) → ((x : Text) → In x xs → Known tree x) → flat_map (n.own_fields p) (reverse (map number xs)) ≡ map value_of (flat_map (own_fields tree) (reverse xs))
+  values_of : (xs : List Text) → ((x : Text) → In x xs → Known tree x) → flat_map (n.own_values p) (reverse (map number xs)) ≡ map value_of (flat_map (own_fields tree) (reverse xs))
   values_of [] known = refl
   values_of (x ∷ xs) known =
-      ap (flat_map (n.own_fields p)) (reverse-append (number x ∷ []) (map number xs))
-      ∙ flat_map-append (n.own_fields p) (reverse (map number xs)) (number x ∷ [])
-      ∙ ap (λ vs. vs ++ (n.own_fields p (number x) ++ [])) (values_of xs (λ y m. known y (inr m)))
-      ∙ ap (λ vs. map value_of (flat_map (own_fields tree) (reverse xs)) ++ vs) (append-nil (n.own_fields p (number x)) ∙ own_values x (known x (inl refl)) ∙ ap (map value_of) (sym (append-nil (own_fields tree x))))
+      ap (flat_map (n.own_values p)) (reverse-append (number x ∷ []) (map number xs))
+      ∙ flat_map-append (n.own_values p) (reverse (map number xs)) (number x ∷ [])
+      ∙ ap (λ vs. vs ++ (n.own_values p (number x) ++ [])) (values_of xs (λ y m. known y (inr m)))
+      ∙ ap (λ vs. map value_of (flat_map (own_fields tree) (reverse xs)) ++ vs) (append-nil (n.own_values p (number x)) ∙ own_values x (known x (inl refl)) ∙ ap (map value_of) (sym (append-nil (own_fields tree x))))
       ∙ sym (map_append value_of (flat_map (own_fields tree) (reverse xs)) (own_fields tree x ++ []))
       ∙ ap (map value_of) (sym (flat_map-append (own_fields tree) (reverse xs) (x ∷ [])) ∙ ap (flat_map (own_fields tree)) (sym (reverse-append (x ∷ []) xs)))
 
@@ -122,7 +123,7 @@ module _ (text : List ℕ) (tree : Tree) (p : Parts) (keeps : KeepsClasses tree)
       let x = class_name tree c in
       let known = name_known tree keeps c lt in
       ap (n.fields p) (sym (number_name tree keeps c lt))
-      ∙ ap (λ cs. flat_map (n.own_fields p) (reverse cs)) (chain_numbers text tree p keeps is x known)
+      ∙ ap (λ cs. flat_map (n.own_values p) (reverse cs)) (chain_numbers text tree p keeps is x known)
       ∙ values_of (chain tree x) (λ y m. in_known tree keeps x y known m)
       ∙ ap (map value_of) (fields_split x known)
 
@@ -148,9 +149,9 @@ module _ (text : List ℕ) (tree : Tree) (p : Parts) (keeps : KeepsClasses tree)
       let x = class_name tree c in
       let known = name_known tree keeps c lt in
       let same : nat_eq c 0 ≡ bytes_eq x object = ap (λ d. nat_eq d 0) (sym (number_name tree keeps c lt)) ∙ ap (λ d. nat_eq (number x) d) (sym (object_number tree keeps)) ∙ same_numbers tree keeps x object known (object_known tree keeps) in
-      subst (λ d. BothOrNone (IsCode tree site p) (if_so (not (bytes_eq x object)) (classes.constructing x (constructor_of tree x))) (if_so (not (nat_eq d 0)) (n.constructing d))) (number_name tree keeps c lt)
-      (subst (λ b. BothOrNone (IsCode tree site p) (if_so (not (bytes_eq x object)) (classes.constructing x (constructor_of tree x))) (if_so (not b) (n.constructing (number x)))) (sym same ∙ ap (λ d. nat_eq d 0) (sym (number_name tree keeps c lt)))
-      ((elim (bytes_eq x object) as (λ b. bytes_eq x object ≡ b → BothOrNone (IsCode tree site p) (if_so (not b) (classes.constructing x (constructor_of tree x))) (if_so (not b) (n.constructing (number x)))) [
+      subst (λ d. BothOrNone (IsCode tree site p) (if_so (not (bytes_eq x object)) (classes.constructing x (constructor_of tree x))) (if_so (not (nat_eq d 0)) (n.the_constructor d))) (number_name tree keeps c lt)
+      (subst (λ b. BothOrNone (IsCode tree site p) (if_so (not (bytes_eq x object)) (classes.constructing x (constructor_of tree x))) (if_so (not b) (n.the_constructor (number x)))) (sym same ∙ ap (λ d. nat_eq d 0) (sym (number_name tree keeps c lt)))
+      ((elim (bytes_eq x object) as (λ b. bytes_eq x object ≡ b → BothOrNone (IsCode tree site p) (if_so (not b) (classes.constructing x (constructor_of tree x))) (if_so (not b) (n.the_constructor (number x)))) [
         | true ↦ λ e. tt
         | false ↦ λ e. (may_be x known (written_constructor tree x) refl (n.constructor_of p (number x)) refl, above_number x known e)
       ]) refl))

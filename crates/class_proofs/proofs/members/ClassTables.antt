@@ -18,7 +18,7 @@ use Rattle.dart_values.specs.Values.{Text}
 use Rattle.dart_meaning.specs.Classes.{class_at, class_named, class_number, classes, built_in_names, constructor_of, no_constructor, field_of, field_place, function_at, functions, is_abstract, is_constructed, object, parent, required}
 use Rattle.dart_meaning.specs.Classes as classes
 use Rattle.dart_meaning.specs.Means.{is_class, is_built_in, top_name, top_named}
-use Rattle.dart_meaning.specs.Numbered.{literal}
+use Rattle.dart_meaning.specs.Literals.{literal}
 use Rattle.dart_meaning.specs.Numbering.{function_number}
 use Rattle.static_rules.specs.Places.{first_in}
 use Rattle.static_rules.specs.Repeats.{repeated}

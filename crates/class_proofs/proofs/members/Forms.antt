@@ -19,10 +19,10 @@ use Rattle.program.proofs.Entries.{found_at}
 use Rattle.dart_values.specs.Values.{Text}
 use Rattle.dart_meaning.specs.Operators.{operator_name}
 use Rattle.dart_meaning.specs.Program.{Found, built_in, reads, writes, coded}
-use Rattle.dart_meaning.specs.Classes.{Code, body_of, Taking, taking, classes, class_named, class_number, built_in_names, field_place, required, literal_or_null, in_member, in_class, own, built_in_taking, first_some, if_so}
+use Rattle.dart_meaning.specs.Classes.{Code, body_of, Taking, taking, classes, class_named, class_number, built_in_names, field_place, required, in_member, in_class, own, built_in_taking, first_some, if_so}
 use Rattle.dart_meaning.specs.Classes as classes
 use Rattle.dart_meaning.specs.Numbering as num
-use Rattle.dart_meaning.specs.Numbered.{literal}
+use Rattle.dart_meaning.specs.Literals.{literal, literal_or_null}
 use Rattle.dart_meaning.specs.Agree.{BothOrNone}
 use Rattle.dart_meaning.specs.Forms.{MethodForm, DoesForm, native, reads_field, writes_field, runs, method_form, does_form}
 use Rattle.dart_meaning.specs.NumberedForm.{default, defaults, numbered_body, method, with_body, numbered_member, numbered_members}

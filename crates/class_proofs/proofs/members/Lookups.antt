@@ -20,8 +20,9 @@ use Rattle.dart_meaning.specs.Program.{Found, built_in, reads, writes, coded}
 use Rattle.dart_meaning.specs.Classes.{Code, body_of, constructing, Taking, class_number, class_numbers, class_name, chain, own, required, first_some, if_so, agrees, of_tree}
 use Rattle.dart_meaning.specs.Numbering as num
 use Rattle.dart_meaning.specs.Numbered as n
-use Rattle.dart_meaning.specs.Numbered.{literal, method_found, method_at, of_numbered}
-use Rattle.dart_meaning.specs.Agree.{BothOrNone, IsFound, IsCode}
+use Rattle.dart_meaning.specs.Numbered.{method_found, method_at, with_code, of_numbered}
+use Rattle.dart_meaning.specs.Literals.{literal}
+use Rattle.dart_meaning.specs.Agree.{BothOrNone, IsCoded, IsFound}
 use Rattle.dart_meaning.specs.Forms.{Form, MethodForm, method_form, does_form, body_form}
 use Rattle.dart_meaning.specs.NumberedForm.{IsNumberedOf, defaults, numbered_body}
 use Rattle.class_proofs.proofs.Lists.{In, spot, spot_zero, spot_map}
@@ -43,33 +44,41 @@ Finds tree p kind name _ _ = ⊥
 abbrev pub HasCodes : Tree → (Place → ℕ) → Parts → Type 0
 HasCodes tree site p = (class : Text) (params : List Param) (b : t.Body) (k : Method) (x : Body) → HasBody tree class params b
     → body_form x ≡ numbered_body tree (Some class) (num.param_names params) b → k.required ≡ required params → map literal k.defaults ≡ defaults params
-    → IsCode tree site p (body_of (Some class) params b) (n.body_of k.required k.defaults x)
+    → IsCoded tree site p (Some class) params b (with_code k.required k.defaults (does.Code x))
 
-found_is : (tree : Tree) (site : Place → ℕ) (p : Parts) → HasCodes tree site p → (k : Method) (found : Found Code) (b : MethodBody) → StandsDoes tree found (method_form k) (does_form b) → IsFound tree site p found (method_found k b)
-found_is tree site p codes k (built_in j) (does.Native i) e = e
-found_is tree site p codes k (reads j) (does.ReadField i) e = e
-found_is tree site p codes k (writes j) (does.WriteField i) e = e
-found_is tree site p codes k (coded (body_of (Some class) params b)) (does.Code x) e = codes class params b k x e.3 e.0 e.1 e.2
-found_is tree site p codes k (coded (body_of None params b)) (does.Code x) e = absurd e
-found_is tree site p codes k (coded (constructing class c)) (does.Code x) e = absurd e
-found_is tree site p codes k (built_in j) (does.ReadField i) e = absurd e
-found_is tree site p codes k (built_in j) (does.WriteField i) e = absurd e
-found_is tree site p codes k (built_in j) (does.Code i) e = absurd e
-found_is tree site p codes k (reads j) (does.Native i) e = absurd e
-found_is tree site p codes k (reads j) (does.WriteField i) e = absurd e
-found_is tree site p codes k (reads j) (does.Code i) e = absurd e
-found_is tree site p codes k (writes j) (does.Native i) e = absurd e
-found_is tree site p codes k (writes j) (does.ReadField i) e = absurd e
-found_is tree site p codes k (writes j) (does.Code i) e = absurd e
-found_is tree site p codes k (coded (body_of (Some class) params b)) (does.Native i) e = absurd e
-found_is tree site p codes k (coded (body_of (Some class) params b)) (does.ReadField i) e = absurd e
-found_is tree site p codes k (coded (body_of (Some class) params b)) (does.WriteField i) e = absurd e
-found_is tree site p codes k (coded (body_of None params b)) (does.Native i) e = absurd e
-found_is tree site p codes k (coded (body_of None params b)) (does.ReadField i) e = absurd e
-found_is tree site p codes k (coded (body_of None params b)) (does.WriteField i) e = absurd e
-found_is tree site p codes k (coded (constructing class c)) (does.Native i) e = absurd e
-found_is tree site p codes k (coded (constructing class c)) (does.ReadField i) e = absurd e
-found_is tree site p codes k (coded (constructing class c)) (does.WriteField i) e = absurd e
+-- the method of this number has that code
+code_at : (tree : Tree) (site : Place → ℕ) (p : Parts) (class : Text) (params : List Param) (b : t.Body) (i : ℕ) (k : Method) (x : MethodBody) → slice_get p.methods i ≡ Some k → k.body ≡ x
+    → IsCoded tree site p (Some class) params b (with_code k.required k.defaults x) → IsCoded tree site p (Some class) params b (n.coded_at p (n.the_method i))
+code_at tree site p class params b i k x at same h =
+    subst (λ o. IsCoded tree site p (Some class) params b (option_and_then (λ (k : Method). with_code k.required k.defaults k.body) o)) (sym at)
+    (subst (λ y. IsCoded tree site p (Some class) params b (with_code k.required k.defaults y)) (sym same) h)
+
+found_is : (tree : Tree) (site : Place → ℕ) (p : Parts) → HasCodes tree site p → (i : ℕ) (k : Method) → slice_get p.methods i ≡ Some k → (found : Found Code) (b : MethodBody) → k.body ≡ b → StandsDoes tree found (method_form k) (does_form b)
+    → IsFound tree site p found (method_found i b)
+found_is tree site p codes m k at (built_in j) (does.Native i) same e = e
+found_is tree site p codes m k at (reads j) (does.ReadField i) same e = e
+found_is tree site p codes m k at (writes j) (does.WriteField i) same e = e
+found_is tree site p codes m k at (coded (body_of (Some class) params b)) (does.Code x) same e = code_at tree site p class params b m k (does.Code x) at same (codes class params b k x e.3 e.0 e.1 e.2)
+found_is tree site p codes m k at (coded (body_of None params b)) (does.Code x) same e = absurd e
+found_is tree site p codes m k at (coded (constructing class c)) (does.Code x) same e = absurd e
+found_is tree site p codes m k at (built_in j) (does.ReadField i) same e = absurd e
+found_is tree site p codes m k at (built_in j) (does.WriteField i) same e = absurd e
+found_is tree site p codes m k at (built_in j) (does.Code i) same e = absurd e
+found_is tree site p codes m k at (reads j) (does.Native i) same e = absurd e
+found_is tree site p codes m k at (reads j) (does.WriteField i) same e = absurd e
+found_is tree site p codes m k at (reads j) (does.Code i) same e = absurd e
+found_is tree site p codes m k at (writes j) (does.Native i) same e = absurd e
+found_is tree site p codes m k at (writes j) (does.ReadField i) same e = absurd e
+found_is tree site p codes m k at (writes j) (does.Code i) same e = absurd e
+found_is tree site p codes m k at (coded (body_of (Some class) params b)) (does.Native i) same e = absurd e
+found_is tree site p codes m k at (coded (body_of (Some class) params b)) (does.ReadField i) same e = absurd e
+found_is tree site p codes m k at (coded (body_of (Some class) params b)) (does.WriteField i) same e = absurd e
+found_is tree site p codes m k at (coded (body_of None params b)) (does.Native i) same e = absurd e
+found_is tree site p codes m k at (coded (body_of None params b)) (does.ReadField i) same e = absurd e
+found_is tree site p codes m k at (coded (body_of None params b)) (does.WriteField i) same e = absurd e
+found_is tree site p codes m k at (coded (constructing class c)) (does.Native i) same e = absurd e
+found_is tree site p codes m k at (coded (constructing class c)) (does.ReadField i) same e = absurd e
+found_is tree site p codes m k at (coded (constructing class c)) (does.WriteField i) same e = absurd e
 
 -- They take the same numbers of arguments.
 pub takes_same : (tree : Tree) (m : Taking) (k : Method) (count : ℕ) → Stands tree m (method_form k) → accepts count k ≡ agrees count m
@@ -124,7 +133,7 @@ module _ (text : List ℕ) (tree : Tree) (p : Parts) (keeps : KeepsClasses tree)
     accepted : (count i : ℕ) (m : Taking) (k : Method) (b : Bool) → slice_get p.methods i ≡ Some k → Stands tree m (method_form k)
         → BothOrNone (IsFound tree site p) (if_so b m.found) (option_and_then (method_at p) (if b then Some i else None))
     accepted count i m k true at stands =
-        subst (λ o. BothOrNone (IsFound tree site p) (Some m.found) (option_map (λ (k : Method). method_found k k.body) o)) (sym at) (found_is tree site p codes k m.found k.body stands.does)
+        subst (λ o. BothOrNone (IsFound tree site p) (Some m.found) (option_map (λ (k : Method). method_found i k.body) o)) (sym at) (found_is tree site p codes i k at m.found k.body refl stands.does)
     accepted count i m k false at stands = tt
 
     found_both : (kind : SelectorKind) (name : Text) (count : ℕ) (a : Option Taking) (o : Option ℕ) → Finds tree p kind name a o

@@ -26,9 +26,9 @@ use Rattle.program.proofs.Each.{slice_get-take}
 use Rattle.program.proofs.BuiltInSound.{built_in_methods}
 use Rattle.dart_values.specs.Values.{Text, Value}
 use Rattle.dart_meaning.specs.Operators.{operator_name}
-use Rattle.dart_meaning.specs.Classes.{classes, class_number, chain_above, field_of, own_fields, fields_above, field_place, required, literal_or_null, if_so}
+use Rattle.dart_meaning.specs.Classes.{classes, class_number, chain_above, field_of, declared_fields, own_fields, fields_above, field_place, required, if_so}
 use Rattle.dart_meaning.specs.Numbering as num
-use Rattle.dart_meaning.specs.Numbered.{literal}
+use Rattle.dart_meaning.specs.Literals.{literal, literal_or_null}
 use Rattle.static_rules.specs.BadOverride.{bad_override}
 use Rattle.dart_meaning.specs.Forms.{ClassForm, MethodForm, native, reads_field, writes_field, runs, field_form, method_form, does_form, body_form}
 use Rattle.dart_meaning.specs.NumberedForm.{IsNumberedOf, default, defaults, numbered_field, numbered_body, with_body, numbered_member, numbered_members}
@@ -171,7 +171,7 @@ module _ (text : List ℕ) (tree : Tree) (p : Parts) (keeps : KeepsClasses tree)
   field_declared c l among m =
       let x = c.name.text in
       let known = class_known text tree p keeps is c among in
-      let own : own_fields tree x ≡ filter_map field_of c.members = ap (λ o. unwrap_or (option_map (λ (c : ClassDecl). filter_map field_of c.members) o) []) (user_class tree keeps c among) in
+      let own : own_fields tree x ≡ filter_map field_of c.members = ap declared_fields (user_class tree keeps c among) in
       let within : In l (own_fields tree x) = subst (λ fs. In l fs) (sym own) (in_kept field_of l (t.field l) c.members m refl) in
       let test = λ (f : Local). bytes_eq f.name.text l.name.text in
       let at = spot_there test l (own_fields tree x) within (text_self l.name.text) in

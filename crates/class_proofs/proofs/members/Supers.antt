@@ -22,7 +22,8 @@ use Rattle.dart_meaning.specs.Operators.{operator_name}
 use Rattle.dart_meaning.specs.Classes.{Taking, classes, class_number, class_numbers, class_name, parent, field_place, object, chain_above, own, first_some, agrees}
 use Rattle.dart_meaning.specs.Means.{super_member}
 use Rattle.dart_meaning.specs.Agree.{FindsAbove, above}
-use Rattle.dart_meaning.specs.Numbered.{literal, method_at, method_found}
+use Rattle.dart_meaning.specs.Numbered.{method_at, method_found}
+use Rattle.dart_meaning.specs.Literals.{literal}
 use Rattle.dart_meaning.specs.Numbering.{Key, key, same_key, member_keys, all_keys, member_number, super_class, super_number}
 use Rattle.dart_meaning.specs.Forms.{MethodForm, writes_field, method_form}
 use Rattle.dart_meaning.specs.NumberedForm.{IsNumberedOf, method, numbered_member, numbered_members, with_body}
@@ -208,9 +209,9 @@ module _ (text : List ℕ) (tree : Tree) (p : Parts) (keeps : KeepsClasses tree)
       let ways : above_chain (parents p.classes) (number x) ≡ h.chain (parents p.classes) (above tree (Some x)) =
       ap (h.chain_of (parents p.classes)) (parent_at text tree p keeps is x (class_known c among) ∙ ap (option_map number) up.1)
       ∙ ap (λ (o : Option Text). h.chain (parents p.classes) (number (unwrap_or o object))) (sym up.1) in
-      let found : method_at p i ≡ Some (method_found r.0 r.0.body) = ap (option_map (λ (k : Method). method_found k k.body)) r.1 in
+      let found : method_at p i ≡ Some (method_found i r.0.body) = ap (option_map (λ (k : Method). method_found i k.body)) r.1 in
       let accepted : if_accepts sel.count i (slice_get p.methods i) ≡ Some i = ap (if_accepts sel.count i) r.1 ∙ ap (λ b. if b then Some i else None) (takes_same tree m r.0 sel.count r.2 ∙ takes) in (
-        method_found r.0 r.0.body,
+        method_found i r.0.body,
         found,
         ap (λ cs. option_and_then (method_at p) (option_and_then (λ m. if_accepts sel.count m (slice_get p.methods m)) (first_declared p.methods sel.kind sel.name cs))) (sym ways)
             ∙ ap (λ o. option_and_then (method_at p) (option_and_then (λ m. if_accepts sel.count m (slice_get p.methods m)) o)) r.5
