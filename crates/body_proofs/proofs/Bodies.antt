@@ -1,6 +1,6 @@
 -- A body of an accepted tree, and a body of the numbered program that has its form.
 use Rattle.std.proofs.Common.{◌≡◌, ℕ, ◌+◌, Bool, true, false, List, [], ◌∷◌, length, map, sym, ◌∙◌, subst}
-use Rattle.std.specs.Prelude.{Option}
+use Rattle.std.specs.Prelude.{Option, Some}
 use Rattle.dart_syntax.specs.Syntax as t
 use Rattle.dart_syntax.specs.Syntax.{Tree, Param}
 use Rattle.program.specs.declared.body.Body as program_body
@@ -10,10 +10,10 @@ use Rattle.program.specs.Bodies as c
 use Rattle.program.specs.Parts.{Parts}
 use Rattle.program.specs.Sound.{Sound, SoundBody, SoundStas}
 use Rattle.dart_values.specs.Values.{Text}
-use Rattle.dart_meaning.specs.Numbered as n
-use Rattle.dart_meaning.specs.Numbered.{literal}
-use Rattle.dart_meaning.specs.Classes.{body_of, required}
-use Rattle.dart_meaning.specs.Agree.{ExpCalls, IsBody, IsCode, StasCall}
+use Rattle.dart_meaning.specs.Numbered.{Coded}
+use Rattle.dart_meaning.specs.Literals.{literal}
+use Rattle.dart_meaning.specs.Classes.{required}
+use Rattle.dart_meaning.specs.Agree.{ExpCalls, IsBody, IsCoded, StasCall}
 use Rattle.dart_meaning.specs.Numbering as num
 use Rattle.dart_meaning.specs.Sites.{site_of}
 use Rattle.dart_meaning.specs.Uses as uses
@@ -92,8 +92,11 @@ sound_code tree p here me params b count values x good same none form =
 pub sound_of : (tree : Tree) (p : Parts) (here : Option Text) (me : Option ℕ) (params : List Param) (b : t.Body) (x : program_body.Body) → GoodCode tree p here me params b → body_form x ≡ numbered_body tree here (num.param_names params) b → SoundBody p me (length params) x
 sound_of tree p here me params b x good form = subst (λ k. SoundBody p me k x) (names_length params) (sound_form tree p here me (num.param_names params) b x form good.good)
 
+abbrev pub coded : ℕ → List Literal → program_body.Body → Coded
+coded count values x = record { required = count; defaults = values; body = x }
+
 pub code_is : (tree : Tree) (p : Parts) (here : Option Text) (me : Option ℕ) (params : List Param) (b : t.Body) (count : ℕ) (values : List Literal) (x : program_body.Body) → GoodCode tree p here me params b
-    → count ≡ required params → map literal values ≡ defaults params → body_form x ≡ numbered_body tree here (num.param_names params) b → IsCode tree (site_of tree) p (body_of here params b) (n.body_of count values x)
+    → count ≡ required params → map literal values ≡ defaults params → body_form x ≡ numbered_body tree here (num.param_names params) b → IsCoded tree (site_of tree) p here params b (Some (coded count values x))
 code_is tree p here me params b count values x good same none form =
     (are_params tree p params count values (all_written params good.plain) same none, form_is tree p here me (num.param_names params) b x form good.good)
 

@@ -1,11 +1,10 @@
 -- The constructors of the numbered program of an accepted tree are sound, and stand for those of the tree.
-use Rattle.std.proofs.Common.{◌≡◌, ℕ, suc, ◌+◌, Bool, true, false, List, [], ◌∷◌, length, map, filter_map, refl, ap, sym, ◌∙◌, subst, arith, slice_get}
-use Rattle.std.specs.Prelude.{Option, Some, None, count_by, is_none, cond, unwrap_or, if◌then◌else◌}
+use Rattle.std.proofs.Common.{◌≡◌, ℕ, suc, Bool, true, false, List, [], ◌∷◌, length, map, filter_map, refl, ap, sym, ◌∙◌, subst, slice_get}
+use Rattle.std.specs.Prelude.{Option, Some, None, unwrap_or, if◌then◌else◌}
 use Rattle.std.specs.Option.{option_map, option_and_then}
 use Rattle.std.specs.List.{list_any}
 use Rattle.std.specs.Str.{bytes_eq}
-use Rattle.std.proofs.lemmas.List.{length-map, length-reverse}
-use Rattle.std.proofs.lemmas.List.Sums.{sum_by-cons}
+use Rattle.std.proofs.lemmas.List.{length-map}
 use Rattle.std.proofs.lemmas.Option.{slice_get-map}
 use Rattle.std.proofs.lemmas.Slice.Eq.{bytes_eq-Decides}
 use Rattle.dart_syntax.specs.Syntax as t
@@ -15,7 +14,7 @@ use Rattle.program.specs.declared.numbered.Constructor.{Constructor}
 use Rattle.program.specs.Bodies as c
 use Rattle.program.specs.Parts.{Parts}
 use Rattle.program.specs.Sound.{AllSound, SoundStas}
-use Rattle.program.specs.Whole.{HasSoundConstructor, SetsField, SoundConstructor, SuperAccepts, passed, plain_parameters}
+use Rattle.program.specs.Whole.{HasSoundConstructor, SetsField, SoundConstructor, SuperAccepts, passed}
 use Rattle.dart_values.specs.Values.{Text}
 use Rattle.dart_meaning.specs.Agree.{IsConstructor, MayBeConstructor}
 use Rattle.dart_meaning.specs.Classes as classes
@@ -30,7 +29,7 @@ use Rattle.static_rules.specs.WrongArgumentsOfStatic.{super_count}
 use Rattle.text_trees.specs.Written.{Each}
 use Rattle.body_proofs.specs.Tables.{Tables}
 use Rattle.body_proofs.proofs.Each.{each_get}
-use Rattle.body_proofs.proofs.Params.{are_params, as_many, names_length}
+use Rattle.body_proofs.proofs.Params.{are_params, as_many, body_length, names_length}
 use Rattle.body_proofs.proofs.Places.{form_count}
 use Rattle.body_proofs.proofs.Tops.{GoodClass, GoodConstructor, GoodIf, GoodMember, GoodTop}
 
@@ -39,17 +38,6 @@ use Rattle.body_proofs.proofs.Tops.{GoodClass, GoodConstructor, GoodIf, GoodMemb
 exps_length : (xs : List c.Exp) → c.count (c.exps xs) ≡ length xs
 exps_length [] = refl
 exps_length (x ∷ more) = ap suc (exps_length more)
-
-one_plain : (tree : Tree) (class : Text) (q : Param) (b : Bool) (n : ℕ) (more : List Param) → n ≡ length (filter_map num.plain more)
-    → cond (is_none (if b then Some (field_place tree class q.name.text) else None)) 1 0 + n ≡ length (filter_map num.plain (record q { is_field = b } ∷ more))
-one_plain tree class q true n more e = omega (arith, e)
-one_plain tree class q false n more e = omega (arith, e)
-
-plain_slots : (tree : Tree) (class : Text) (params : List Param) → count_by is_none (num.sets tree class params) ≡ length (filter_map num.plain params)
-plain_slots tree class [] = refl
-plain_slots tree class (q ∷ more) =
-    sum_by-cons (λ (o : Option ℕ). cond (is_none o) 1 0) (if q.is_field then Some (field_place tree class q.name.text) else None) (num.sets tree class more)
-    ∙ one_plain tree class q q.is_field (count_by is_none (num.sets tree class more)) more (plain_slots tree class more)
 
 sets_length : (tree : Tree) (class : Text) (params : List Param) → length (num.sets tree class params) ≡ length params
 sets_length tree class params = length-map params (λ (q : Param). if q.is_field then Some (field_place tree class q.name.text) else None)
@@ -132,8 +120,8 @@ module _ (tree : Tree) (p : Parts) (tables : Tables tree p) (k : ClassDecl) (nam
     as_sets : length b.sets ≡ length form.params
     as_sets = ap length same_sets ∙ sets_length tree class form.params
 
-    plain_is : plain_parameters b ≡ length (num.body_names form.params)
-    plain_is = ap (count_by is_none) same_sets ∙ (plain_slots tree class form.params ∙ sym (length-reverse (filter_map num.plain form.params)))
+    slots_are : length (num.body_names form.params) ≡ length b.sets
+    slots_are = body_length form.params ∙ sym as_sets
 
     pub constructor_sound : SoundConstructor p number b
     constructor_sound = record {
@@ -141,7 +129,7 @@ module _ (tree : Tree) (p : Parts) (tables : Tables tree p) (k : ClassDecl) (nam
       sets = λ i. subst (λ l. SetsField p number (slice_get l i)) (sym same_sets) (sets_sound form.params good.sets i);
       passes = subst (λ n. AllSound p None n (c.exps (map c.exp b.passes))) (names_length form.params ∙ sym as_sets)
           (subst (λ x. AllSound p None (length (num.param_names form.params)) x) (sym same_passes) good.passes.1);
-      body = subst (λ n. SoundStas p (Some number) false n false (c.stas (map c.sta b.body))) (sym plain_is)
+      body = subst (λ n. SoundStas p (Some number) false n false (c.stas (map c.sta b.body))) slots_are
           (subst (λ x. SoundStas p (Some number) false (length (num.body_names form.params)) false x) (sym same_body) good.body.1);
     }
 

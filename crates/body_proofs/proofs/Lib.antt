@@ -1,3 +1,4 @@
+pub mod Assignables
 pub mod Scopes
 pub mod Places
 pub mod Expressions

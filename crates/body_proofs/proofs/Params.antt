@@ -7,10 +7,10 @@ use Rattle.dart_syntax.specs.Syntax.{Tree, Param}
 use Rattle.program.specs.declared.literal.Literal.{Literal}
 use Rattle.program.specs.Parts.{Parts}
 use Rattle.dart_values.specs.Values.{null}
-use Rattle.dart_meaning.specs.Numbered.{literal}
-use Rattle.dart_meaning.specs.Classes.{if_so, literal_or_null, required}
+use Rattle.dart_meaning.specs.Literals.{literal, literal_or_null}
+use Rattle.dart_meaning.specs.Classes.{if_so, required}
 use Rattle.dart_meaning.specs.Agree.{AreParams}
-use Rattle.dart_meaning.specs.Numbering.{param_names}
+use Rattle.dart_meaning.specs.Numbering.{param_names, body_name, body_names}
 use Rattle.dart_meaning.specs.Sites.{site_of}
 use Rattle.dart_meaning.specs.NumberedForm.{default, defaults}
 use Rattle.text_trees.specs.Written.{AreWrittenParams, Each, IsPlainParam}
@@ -51,3 +51,6 @@ as_many params count values all same none =
 
 pub names_length : (params : List Param) → length (param_names params) ≡ length params
 names_length params = length-reverse (map (λ (k : Param). k.name.text) params) ∙ length-map params (λ (k : Param). k.name.text)
+
+pub body_length : (params : List Param) → length (body_names params) ≡ length params
+body_length params = length-reverse (map body_name params) ∙ length-map params body_name

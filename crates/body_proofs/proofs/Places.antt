@@ -1,7 +1,6 @@
 -- What a use that is fine gives to the numbered form at its place.
 use Rattle.std.proofs.Common.{◌≡◌, ℕ, ◌-◌, suc, ◌<◌, Bool, true, false, not, IsTrue, List, [], ◌∷◌, ◌++◌, length, refl, sym, subst, arith}
 use Rattle.std.specs.Prelude.{Option, Some, None, is_some, unwrap_or, slice_get, codes, if◌then◌else◌}
-use Rattle.std.specs.Option.{option_map}
 use Rattle.std.specs.Str.{bytes_eq}
 use Rattle.dart_syntax.specs.declared.token.Span.{Span}
 use Rattle.dart_syntax.specs.declared.tree.Name.{Name}
@@ -15,6 +14,7 @@ use Rattle.dart_syntax.specs.declared.tree.Step.{Step}
 use Rattle.dart_syntax.specs.declared.tree.Step.TheVariants as step
 use Rattle.dart_syntax.specs.Syntax as t
 use Rattle.dart_syntax.specs.Syntax.{Tree}
+use Rattle.program.specs.declared.body.BinaryOperator.{BinaryOperator}
 use Rattle.program.specs.declared.numbered.Method.{Method}
 use Rattle.program.specs.declared.numbered.Selector.{Selector}
 use Rattle.program.specs.declared.numbered.SelectorKind.{SelectorKind}
@@ -23,24 +23,26 @@ use Rattle.program.specs.Bodies as c
 use Rattle.program.specs.Lookup.{same_kind}
 use Rattle.program.specs.Parts.{Parts, selector_at}
 use Rattle.program.specs.Sound as sound
-use Rattle.program.specs.Sound.{Sound, AllSound, SoundSpot, Is, IsOf, IsRole, IsNoSetter, Operates, LinksAt, is_lazy, assigns, steps, binary_name}
+use Rattle.program.specs.Sound.{Sound, AllSound, Is, IsOf, IsRole, IsNoSetter, Operates, Joins, assigns, steps, binary_name}
 use Rattle.dart_values.specs.Values.{Text}
 use Rattle.dart_meaning.specs.declared.seen.Seen.{Seen}
 use Rattle.dart_meaning.specs.declared.seen.Seen.TheVariants.{Late, Ready}
 use Rattle.dart_meaning.specs.Place.{Place, reading, writing}
 use Rattle.dart_meaning.specs.Program.{calling, getting, setting}
-use Rattle.dart_meaning.specs.Operators.{operator_of, compound, step_operator}
+use Rattle.dart_meaning.specs.Operators.{operator_of, operator_call, joint_by, joint_of, compound, step_operator}
+use Rattle.dart_meaning.specs.Literals.{negated}
 use Rattle.dart_meaning.specs.Classes.{class_declares, class_number, is_constructed, variable_place}
 use Rattle.dart_meaning.specs.Meaning as meaning
-use Rattle.dart_meaning.specs.Meaning.{Scope, of_body, of_this, of_unit, scope_by}
+use Rattle.dart_meaning.specs.Meaning.{Owner, of_body, of_this, of_unit, owner_by}
 use Rattle.dart_meaning.specs.Agree.{Where, BareCalls, BareCallCalls, PrefixCalls}
 use Rattle.dart_meaning.specs.Numbering as num
-use Rattle.dart_meaning.specs.Numbering.{index_of}
+use Rattle.dart_meaning.specs.Numbering.{Assignable, index_of}
 use Rattle.dart_meaning.specs.Sites.{site_of}
 use Rattle.dart_meaning.specs.Uses as uses
 use Rattle.dart_meaning.specs.Uses.{Use, operates}
 use Rattle.body_proofs.specs.Tables.{ReachesAbove}
 use Rattle.body_proofs.specs.Fine.{Fine, AllFine, FineName, FineOutside, FineCall}
+use Rattle.body_proofs.proofs.Assignables.{SoundAssignable, sound_target, sound_update}
 use Rattle.body_proofs.proofs.Scopes.{KnownBy}
 
 -- ---- selectors
@@ -80,6 +82,16 @@ pub where_unit : (b : Bool) → Where b (Unit {0})
 where_unit true = tt
 where_unit false = tt
 
+-- ---- operators that assign
+
+abbrev Assigns : Option BinaryOperator → Type 0
+Assigns None = Unit {0}
+Assigns (Some op) = IsTrue (assigns op)
+
+compound_assigns : (op : Assignment) → Assigns (compound op)
+compound_assigns a.Plain = tt
+compound_assigns _ = refl
+
 module _ (tree : Tree) (p : Parts) (here : Option Text) (me : Option ℕ) (answers : Bool) where
   abbrev All : List Use → Type 0
   All = AllFine tree p here me answers
@@ -100,49 +112,49 @@ module _ (tree : Tree) (p : Parts) (here : Option Text) (me : Option ℕ) (answe
 
   -- ---- bare names
 
-  abbrev BareRead : List Text → Scope → Name → Type 0
-  BareRead names scope x = BareCalls tree at p here scope (reading x.span.start) (getting x.text) × Sound p me (length names) (num.bare tree at here names scope x)
+  abbrev BareRead : List Text → Owner → Name → Type 0
+  BareRead names owner x = BareCalls tree at p here owner (reading x.span.start) (getting x.text) × Sound p me (length names) (num.bare tree at here names owner x)
 
-  bare_outside : (x : Name) (names : List Text) (d v : Bool) → FineOutside tree p here me answers (scope_by false d v) x.text (reading x.span.start) (getting x.text) → BareRead names (scope_by false d v) x
-  bare_outside x names true v (this, f) = (f, (asks_at (selector_at p (at (reading x.span.start))) (getting x.text) f refl, this, tt))
+  bare_outside : (x : Name) (names : List Text) (d v : Bool) → FineOutside tree p here me answers (owner_by false d v) x.text (reading x.span.start) (getting x.text) → BareRead names (owner_by false d v) x
+  bare_outside x names true v (this, f) = (f, (this, (asks_at (selector_at p (at (reading x.span.start))) (getting x.text) f refl, tt, tt)))
   bare_outside x names false true f = (tt, f)
-  bare_outside x names false false (this, f) = (f, (asks_at (selector_at p (at (reading x.span.start))) (getting x.text) f refl, this, tt))
+  bare_outside x names false false (this, f) = (f, (this, (asks_at (selector_at p (at (reading x.span.start))) (getting x.text) f refl, tt, tt)))
 
   pub bare_read : (x : Name) (names : List Text) (s : Option Seen) (o : Option ℕ) → index_of x.text names ≡ o → KnownBy s o → FineName tree p here me answers s x.text (reading x.span.start) (getting x.text)
-      → BareRead names (scope_by (is_some o) (class_declares tree here x.text) (is_some (variable_place tree x.text))) x
+      → BareRead names (owner_by (is_some o) (class_declares tree here x.text) (is_some (variable_place tree x.text))) x
   bare_read x names (Some Late) o e known f = absurd f
   bare_read x names (Some (Ready is_final)) (Some k) e known f = (tt, slot_in x.text names k e)
   bare_read x names (Some (Ready is_final)) None e known f = absurd known
-  bare_read x names None (Some k) e known f = absurd known
+  bare_read x names None (Some k) e known f = (tt, slot_in x.text names k e)
   bare_read x names None None e known f = bare_outside x names (class_declares tree here x.text) (is_some (variable_place tree x.text)) f
 
-  abbrev BareWrite : List Text → Bool → Scope → Name → Type 0
-  BareWrite names reads_too scope x =
-      (Where reads_too (BareCalls tree at p here scope (reading x.span.start) (getting x.text)) × BareCalls tree at p here scope (writing x.span.start) (setting x.text))
-      × SoundSpot p me (length names) reads_too (num.bare_spot tree at here names reads_too scope x)
+  abbrev BareWrite : List Text → Bool → Owner → Name → Type 0
+  BareWrite names reads_too owner x =
+      (Where reads_too (BareCalls tree at p here owner (reading x.span.start) (getting x.text)) × BareCalls tree at p here owner (writing x.span.start) (setting x.text))
+      × SoundAssignable tree p here me reads_too (length names) (num.bare_assignable tree at here names owner x)
 
-  abbrev Outside : Scope → Name → Type 0
-  Outside scope x = FineOutside tree p here me answers scope x.text (reading x.span.start) (getting x.text)
+  abbrev Outside : Owner → Name → Type 0
+  Outside owner x = FineOutside tree p here me answers owner x.text (reading x.span.start) (getting x.text)
 
-  abbrev OutsideSet : Scope → Name → Type 0
-  OutsideSet scope x = FineOutside tree p here me answers scope x.text (writing x.span.start) (setting x.text)
+  abbrev OutsideSet : Owner → Name → Type 0
+  OutsideSet owner x = FineOutside tree p here me answers owner x.text (writing x.span.start) (setting x.text)
 
   write_this : (reads_too : Bool) (x : Name) (names : List Text) → Where reads_too (Outside of_this x) → OutsideSet of_this x → BareWrite names reads_too of_this x
   write_this true x names (this, f) (me, g) = ((f, g), (gets_at (selector_at p (at (reading x.span.start))) x.text f, sets_at (selector_at p (at (writing x.span.start))) x.text g, this))
   write_this false x names f (this, g) = ((tt, g), (tt, sets_at (selector_at p (at (writing x.span.start))) x.text g, this))
 
-  write_outside : (reads_too : Bool) (x : Name) (names : List Text) (d v : Bool) → Where reads_too (Outside (scope_by false d v) x) → OutsideSet (scope_by false d v) x → BareWrite names reads_too (scope_by false d v) x
+  write_outside : (reads_too : Bool) (x : Name) (names : List Text) (d v : Bool) → Where reads_too (Outside (owner_by false d v) x) → OutsideSet (owner_by false d v) x → BareWrite names reads_too (owner_by false d v) x
   write_outside reads_too x names true v f g = write_this reads_too x names f g
   write_outside reads_too x names false true f g = ((where_unit reads_too, tt), g)
   write_outside reads_too x names false false f g = write_this reads_too x names f g
 
   pub bare_write : (reads_too : Bool) (x : Name) (names : List Text) (s : Option Seen) (o : Option ℕ) → index_of x.text names ≡ o → KnownBy s o
       → Where reads_too (FineName tree p here me answers s x.text (reading x.span.start) (getting x.text)) → FineName tree p here me answers s x.text (writing x.span.start) (setting x.text)
-      → BareWrite names reads_too (scope_by (is_some o) (class_declares tree here x.text) (is_some (variable_place tree x.text))) x
+      → BareWrite names reads_too (owner_by (is_some o) (class_declares tree here x.text) (is_some (variable_place tree x.text))) x
   bare_write reads_too x names (Some Late) o e known f g = absurd g
   bare_write reads_too x names (Some (Ready is_final)) (Some k) e known f g = ((where_unit reads_too, tt), slot_in x.text names k e)
   bare_write reads_too x names (Some (Ready is_final)) None e known f g = absurd known
-  bare_write reads_too x names None (Some k) e known f g = absurd known
+  bare_write reads_too x names None (Some k) e known f g = ((where_unit reads_too, tt), slot_in x.text names k e)
   bare_write reads_too x names None None e known f g = write_outside reads_too x names (class_declares tree here x.text) (is_some (variable_place tree x.text)) f g
 
   -- ---- bare calls
@@ -151,16 +163,21 @@ module _ (tree : Tree) (p : Parts) (here : Option Text) (me : Option ℕ) (answe
   BareCall d f is_class is_print x n names e = BareCallCalls tree at p here d f is_class is_print (reading x.span.start) (calling x.text n) × Sound p me (length names) e
 
   abbrev sent : Name → c.Exps → c.Exp
-  sent x args = c.send (num.site tree at here x.span) c.this args
+  sent x args = num.one_call tree at here x.span c.this args
 
   sends : (x : Name) (names : List Text) (args : c.Exps) → AllSound p me (length names) args → (n : ℕ) → c.count args ≡ n → IsTrue (is_some me) → selector_at p (at (reading x.span.start)) ≡ Some (calling x.text n)
       → Sound p me (length names) (sent x args)
-  sends x names args s n e this f = (subst (λ k. sound.Asks k (selector_at p (at (reading x.span.start)))) (sym e) (asks_at (selector_at p (at (reading x.span.start))) (calling x.text n) f refl), this, s)
+  sends x names args s n e this f =
+      (this, (subst (λ k. sound.Asks k (selector_at p (at (reading x.span.start)))) (sym e) (asks_at (selector_at p (at (reading x.span.start))) (calling x.text n) f refl), s, tt))
+
+  printed_sound : (slots : ℕ) (args : c.Exps) → AllSound p me slots args → Sound p me slots (num.printed args)
+  printed_sound slots c.no_more s = tt
+  printed_sound slots (c.also e more) s = s.0
 
   no_function : (is_class is_print : Bool) (x : Name) (names : List Text) (args : c.Exps) → AllSound p me (length names) args → (n : ℕ) → c.count args ≡ n → FineCall tree p here me answers false None is_class is_print x n
-      → BareCall false None is_class is_print x n names (if is_class then c.make (class_number tree x.text) args else (if is_print then c.print args else sent x args))
+      → BareCall false None is_class is_print x n names (if is_class then c.new (class_number tree x.text) args else (if is_print then c.print (num.printed args) else sent x args))
   no_function true is_print x names args s n e (f, g) = (tt, (f, subst (λ k. sound.MakeAccepts k (slice_get p.classes (class_number tree x.text))) (sym e) g, s))
-  no_function false true x names args s n e f = (tt, (subst (λ k. k ≡ 1) (sym e) f, s))
+  no_function false true x names args s n e f = (f, printed_sound (length names) args s)
   no_function false false x names args s n e (this, f) = (f, sends x names args s n e this f)
 
   unit_call : (f : Option ℕ) (x : Name) (names : List Text) (args : c.Exps) → AllSound p me (length names) args → (n : ℕ) → c.count args ≡ n
@@ -187,7 +204,7 @@ module _ (tree : Tree) (p : Parts) (here : Option Text) (me : Option ℕ) (answe
   role_is kind (Some k) h e = subst (λ r. IsTrue (not (same_kind r Set))) (sym e) h
 
   pub sound_above : (sel : Selector) → IsTrue (not (same_kind sel.kind Set)) → ReachesAbove tree p here me sel → (args : c.Exps) (slots : ℕ) → c.count args ≡ sel.count → AllSound p me slots args
-      → Sound p me slots (c.above (num.super_number tree at here sel.kind sel.name) args)
+      → Sound p me slots (c.super (num.super_number tree at here sel.kind sel.name) args)
   sound_above sel h (f, role, accepts) args slots e s = (
     role_is sel.kind (slice_get p.methods (num.super_number tree at here sel.kind sel.name)) h role,
     subst (λ k. sound.AboveAccepts p me (num.super_number tree at here sel.kind sel.name) k (slice_get p.methods (num.super_number tree at here sel.kind sel.name))) (sym e) accepts,
@@ -197,50 +214,31 @@ module _ (tree : Tree) (p : Parts) (here : Option Text) (me : Option ℕ) (answe
   -- ---- operators
 
   pub prefixed : (op : Unary) (span : Span) (e : t.Exp) (x : c.Exp) (slots : ℕ) → All (uses.prefix_use op span e) → Sound p me slots x
-      → Where (not (is_some (num.negated op e))) (PrefixCalls tree at p here op span) × Sound p me slots (num.unary tree at here (num.negated op e) (num.prefixed tree at here op span x))
+      → Where (not (is_some (negated op e))) (PrefixCalls tree at p here op span) × Sound p me slots (num.unary tree at here (negated op e) (num.prefixed tree at here op span x))
   prefixed u.Not span e x slots f s = (tt, s)
-  prefixed u.Complement span e x slots (f, g) s = (f, (asks_at (selector_at p (at (reading span.start))) (calling (codes "~") 0) f refl, s, tt))
+  prefixed u.Complement span e x slots (f, g) s = (f, (s, (asks_at (selector_at p (at (reading span.start))) (calling (codes "~") 0) f refl, tt, tt)))
   prefixed u.Minus span (t.int n where_at) x slots f s = (tt, tt)
   prefixed u.Minus span (t.min_int where_at) x slots f s = (tt, tt)
-  prefixed u.Minus span e x slots (f, g) s = (f, (asks_at (selector_at p (at (reading span.start))) (calling (codes "unary-") 0) f refl, s, tt))
+  prefixed u.Minus span e x slots (f, g) s = (f, (s, (asks_at (selector_at p (at (reading span.start))) (calling (codes "unary-") 0) f refl, tt, tt)))
 
-  pub link_at : (op : Binary) (span : Span) → All (uses.link_use op span) → LinksAt p me (num.if_reads tree at here (not (is_lazy (operator_of op))) (num.site tree at here span)) (operator_of op)
-  link_at b.Or span f = refl
-  link_at b.And span f = refl
-  link_at op span (f, g) = (refl, calls_at (selector_at p (at (reading span.start))) (binary_name (operator_of op)) 1 f)
+  joint_at : (op : Binary) (o : Option BinaryOperator) (span : Span) → All (uses.operator_use o span) → Joins p me (joint_by op o (num.site tree at here span))
+  joint_at op (Some called) span (f, g) = calls_at (selector_at p (at (reading span.start))) (binary_name called) 1 f
+  joint_at b.Or None span f = tt
+  joint_at _ None span f = tt
 
-  pub step_at : (op : Step) (span : Span) → All (operates (uses.step_operator op) span ∷ []) → Operates p me steps (Some (num.operating tree at here (step_operator op) span))
+  pub link_at : (op : Binary) (span : Span) → All (uses.operator_use (operator_of op) span) → Joins p me (joint_of op (num.site tree at here span))
+  link_at op span f = joint_at op (operator_of op) span f
+
+  pub step_at : (op : Step) (span : Span) → All (operates (step_operator op) span ∷ []) → Operates p me steps (operator_call (step_operator op) (num.site tree at here span))
   step_at step.Increment span (f, g) = (refl, calls_at (selector_at p (at (reading span.start))) (codes "+") 1 f)
   step_at step.Decrement span (f, g) = (refl, calls_at (selector_at p (at (reading span.start))) (codes "-") 1 f)
 
-  pub assign_at : (op : Assignment) (span : Span) → All (uses.operator_use (uses.operator_of op) span) → Operates p me assigns (option_map (λ o. num.operating tree at here o span) (compound op))
-  assign_at a.Plain span f = tt
-  assign_at a.Add span (f, g) = (refl, calls_at (selector_at p (at (reading span.start))) (codes "+") 1 f)
-  assign_at a.Subtract span (f, g) = (refl, calls_at (selector_at p (at (reading span.start))) (codes "-") 1 f)
-  assign_at a.Multiply span (f, g) = (refl, calls_at (selector_at p (at (reading span.start))) (codes "*") 1 f)
-  assign_at a.Divide span (f, g) = (refl, calls_at (selector_at p (at (reading span.start))) (codes "~/") 1 f)
-  assign_at a.Remainder span (f, g) = (refl, calls_at (selector_at p (at (reading span.start))) (codes "%") 1 f)
-  assign_at a.BitAnd span (f, g) = (refl, calls_at (selector_at p (at (reading span.start))) (codes "&") 1 f)
-  assign_at a.BitOr span (f, g) = (refl, calls_at (selector_at p (at (reading span.start))) (codes "|") 1 f)
-  assign_at a.BitXor span (f, g) = (refl, calls_at (selector_at p (at (reading span.start))) (codes "^") 1 f)
-  assign_at a.ShiftLeft span (f, g) = (refl, calls_at (selector_at p (at (reading span.start))) (codes "<<") 1 f)
-  assign_at a.ShiftRight span (f, g) = (refl, calls_at (selector_at p (at (reading span.start))) (codes ">>") 1 f)
-  assign_at a.ShiftUnsigned span (f, g) = (refl, calls_at (selector_at p (at (reading span.start))) (codes ">>>") 1 f)
+  assigned_by : (op : Option BinaryOperator) (span : Span) (to : Assignable) (e : c.Exp) (slots : ℕ) → Assigns op → All (uses.operator_use op span) → SoundAssignable tree p here me (is_some op) slots to → Sound p me slots e
+      → Sound p me slots (num.assigned tree at here op span to e)
+  assigned_by None span to e slots h f s r = (sound_target tree p here me slots to s, r)
+  assigned_by (Some op) span to e slots h (f, g) s r = (sound_update tree p here me slots to s, (h, calls_at (selector_at p (at (reading span.start))) (binary_name op) 1 f), r)
 
-pub same_reads : (op : Assignment) → is_some (uses.operator_of op) ≡ is_some (compound op)
-same_reads a.Plain = refl
-same_reads a.Add = refl
-same_reads a.Subtract = refl
-same_reads a.Multiply = refl
-same_reads a.Divide = refl
-same_reads a.Remainder = refl
-same_reads a.BitAnd = refl
-same_reads a.BitOr = refl
-same_reads a.BitXor = refl
-same_reads a.ShiftLeft = refl
-same_reads a.ShiftRight = refl
-same_reads a.ShiftUnsigned = refl
-
-pub is_some_map : {A B : Type 0} (f : A → B) (o : Option A) → is_some o ≡ is_some (option_map f o)
-is_some_map f None = refl
-is_some_map f (Some x) = refl
+  -- an assignment
+  pub assigned_at : (op : Assignment) (span : Span) (to : Assignable) (e : c.Exp) (slots : ℕ) → All (uses.operator_use (compound op) span) → SoundAssignable tree p here me (is_some (compound op)) slots to → Sound p me slots e
+      → Sound p me slots (num.assigned tree at here (compound op) span to e)
+  assigned_at op span to e slots f s r = assigned_by (compound op) span to e slots (compound_assigns op) f s r

@@ -1,5 +1,5 @@
 -- What a scope knows of names, and the names that are open.
-use Rattle.std.proofs.Common.{◌≡◌, ℕ, suc, Bool, true, false, List, [], ◌∷◌, ◌++◌, map, reverse, filter_map, refl, ap, sym, ◌∙◌, subst, append-nil, append_assoc}
+use Rattle.std.proofs.Common.{◌≡◌, ℕ, suc, Bool, true, false, List, [], ◌∷◌, ◌++◌, map, reverse, refl, ap, sym, ◌∙◌, subst, append-nil, append_assoc}
 use Rattle.std.specs.Prelude.{Option, Some, None, if◌then◌else◌, ◌||◌}
 use Rattle.std.specs.Option.{option_map}
 use Rattle.std.specs.Str.{bytes_eq}
@@ -9,17 +9,14 @@ use Rattle.dart_syntax.specs.Syntax.{Param}
 use Rattle.dart_values.specs.Values.{Text}
 use Rattle.dart_meaning.specs.declared.seen.Seen.{Seen}
 use Rattle.dart_meaning.specs.declared.seen.Seen.TheVariants.{Late, Ready}
-use Rattle.dart_meaning.specs.Numbering.{index_of, param_names, body_names, plain}
-use Rattle.dart_meaning.specs.Uses.{Scope, nothing_seen, with_seen, opened, with_params, with_passed}
+use Rattle.dart_meaning.specs.Numbering.{index_of, param_names, body_name, body_names}
+use Rattle.dart_meaning.specs.Uses.{Scope, nothing_seen, with_seen, opened, with_param, with_params, with_passed}
 use Rattle.text_trees.specs.Written.{Each, IsPlainParam}
 
--- A name that is known and ready is open; one that is not known is not.
+-- A name that is known and ready is open.
 abbrev pub KnownBy : Option Seen → Option ℕ → Type 0
-KnownBy None None = Unit {0}
-KnownBy None (Some k) = ⊥
-KnownBy (Some Late) o = Unit {0}
-KnownBy (Some (Ready is_final)) (Some k) = Unit {0}
 KnownBy (Some (Ready is_final)) None = ⊥
+KnownBy _ _ = Unit {0}
 
 abbrev pub Knows : Scope → List Text → Type 0
 Knows scope names = (q : Text) → KnownBy (scope q) (index_of q names)
@@ -29,8 +26,9 @@ knows_nothing q = tt
 
 later : (s : Option Seen) (o : Option ℕ) → KnownBy s o → KnownBy s (option_map suc o)
 later None None h = tt
-later None (Some k) h = absurd h
-later (Some Late) o h = tt
+later None (Some k) h = tt
+later (Some Late) None h = tt
+later (Some Late) (Some k) h = tt
 later (Some (Ready f)) (Some k) h = tt
 later (Some (Ready f)) None h = absurd h
 
@@ -42,7 +40,8 @@ pub knows_ready : (n : Name) (f : Bool) (scope : Scope) (names : List Text) → 
 knows_ready n f scope names h q = ready_step (bytes_eq n.text q) f (scope q) (index_of q names) (h q)
 
 late_step : (b : Bool) (s : Option Seen) (o : Option ℕ) → KnownBy s o → KnownBy (if b then Some Late else s) o
-late_step true s o h = tt
+late_step true s None h = tt
+late_step true s (Some k) h = tt
 late_step false s o h = h
 
 pub knows_late : (n : Name) (scope : Scope) (names : List Text) → Knows scope names → Knows (with_seen n Late scope) names
@@ -60,18 +59,26 @@ reversed x xs names = sym (append_assoc (reverse xs) (x ∷ []) names) ∙ ap (�
 abbrev KnowsIn : Scope → List Text → List Text → Type 0
 KnowsIn scope xs names = Knows scope (reverse xs ++ names)
 
-body_step : (k : Param) (is_field : Bool) → (more : List Param) (scope : Scope) (names : List Text)
-    → ((inner : Scope) (known : List Text) → Knows inner known → KnowsIn (with_params more inner) (filter_map plain more) known)
-    → Knows scope names
-    → KnowsIn (with_params more (if is_field then scope else with_seen k.name (Ready k.is_final) scope)) (filter_map plain (record k { is_field = is_field } ∷ more)) names
-body_step k true more scope names next h = next scope names h
-body_step k false more scope names next h =
-    subst (λ l. Knows (with_params more (with_seen k.name (Ready k.is_final) scope)) l) (reversed k.name.text (filter_map plain more) names)
-    (next (with_seen k.name (Ready k.is_final) scope) (k.name.text ∷ names) (knows_ready k.name k.is_final scope names h))
+more_step : (b : Bool) (s : Option Seen) (o : Option ℕ) → KnownBy s o → KnownBy s (if b then Some 0 else option_map suc o)
+more_step true None o h = tt
+more_step true (Some Late) o h = tt
+more_step true (Some (Ready f)) o h = tt
+more_step false s o h = later s o h
 
-body_from : (params : List Param) (scope : Scope) (names : List Text) → Knows scope names → KnowsIn (with_params params scope) (filter_map plain params) names
+-- one more name is open
+knows_more : (name : Text) (scope : Scope) (names : List Text) → Knows scope names → Knows scope (name ∷ names)
+knows_more name scope names h q = more_step (bytes_eq name q) (scope q) (index_of q names) (h q)
+
+param_step : (k : Param) (is_field : Bool) (scope : Scope) (names : List Text) → Knows scope names
+    → Knows (if is_field then scope else with_seen k.name (Ready k.is_final) scope) ((if is_field then [] else k.name.text) ∷ names)
+param_step k true scope names h = knows_more [] scope names h
+param_step k false scope names h = knows_ready k.name k.is_final scope names h
+
+body_from : (params : List Param) (scope : Scope) (names : List Text) → Knows scope names → KnowsIn (with_params params scope) (map body_name params) names
 body_from [] scope names h = h
-body_from (k ∷ more) scope names h = body_step k k.is_field more scope names (λ inner known. body_from more inner known) h
+body_from (k ∷ more) scope names h =
+    subst (λ l. Knows (with_params more (with_param k scope)) l) (reversed (body_name k) (map body_name more) names)
+    (body_from more (with_param k scope) (body_name k ∷ names) (param_step k k.is_field scope names h))
 
 -- in the body of a constructor
 pub knows_body : (params : List Param) → Knows (with_params params nothing_seen) (body_names params)
@@ -88,13 +95,13 @@ pub knows_passed : (params : List Param) → Knows (with_passed params nothing_s
 knows_passed params = subst (λ l. Knows (with_passed params nothing_seen) l) (append-nil (param_names params)) (passed_from params nothing_seen [] knows_nothing)
 
 -- in another body, where each parameter is plain
-plain_one : (k : Param) (b : Bool) → b ≡ false → (more : List Text) → (rest : List Param) → filter_map plain rest ≡ more → filter_map plain (record k { is_field = b } ∷ rest) ≡ k.name.text ∷ more
-plain_one k false e more rest h = ap (λ l. k.name.text ∷ l) h
-plain_one k true e more rest h = cc
+plain_one : (k : Param) (b : Bool) → b ≡ false → (if b then [] else k.name.text) ≡ k.name.text
+plain_one k false e = refl
+plain_one k true e = absurd cc
 
-plain_all : (params : List Param) → Each IsPlainParam params → filter_map plain params ≡ map (λ (k : Param). k.name.text) params
+plain_all : (params : List Param) → Each IsPlainParam params → map body_name params ≡ map (λ (k : Param). k.name.text) params
 plain_all [] h = refl
-plain_all (k ∷ more) (h, rest) = plain_one k k.is_field h.no_field (map (λ (x : Param). x.name.text) more) more (plain_all more rest)
+plain_all (k ∷ more) (h, rest) = rw (plain_one k k.is_field h.no_field, plain_all more rest) refl
 
 pub knows_params : (params : List Param) → Each IsPlainParam params → Knows (with_params params nothing_seen) (param_names params)
 knows_params params h = subst (λ l. Knows (with_params params nothing_seen) (reverse l)) (plain_all params h) (knows_body params)

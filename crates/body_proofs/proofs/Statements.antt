@@ -24,21 +24,21 @@ use Rattle.body_proofs.proofs.Expressions as exps
 
 -- ---- what is open behind a statement
 
-pub knows_after : (s : t.Sta) (scope : Scope) (names : List Text) (tree : Tree) (at : Place → ℕ) (here : Option Text) → Knows scope names → Knows (uses.after s scope) (num.after tree at here names s)
-knows_after (t.local x) scope names tree at here h = knows_ready x.name x.is_final scope names h
-knows_after _ scope names tree at here h = h
+pub knows_after : (s : t.Sta) (scope : Scope) (names : List Text) → Knows scope names → Knows (uses.after s scope) (num.after names s)
+knows_after (t.local x) scope names h = knows_ready x.name x.is_final scope names h
+knows_after _ scope names h = h
 
-pub knows_first : (s : t.First) (scope : Scope) (names : List Text) (tree : Tree) (at : Place → ℕ) (here : Option Text) → Knows scope names → Knows (uses.after_first s scope) (num.after_first tree at here names s)
-knows_first (t.local_first x) scope names tree at here h = knows_ready x.name x.is_final scope names h
-knows_first _ scope names tree at here h = h
+pub knows_first : (s : t.First) (scope : Scope) (names : List Text) → Knows scope names → Knows (uses.after_first s scope) (num.after_first names s)
+knows_first (t.local_first x) scope names h = knows_ready x.name x.is_final scope names h
+knows_first _ scope names h = h
 
-slots_after : (s : t.Sta) (names : List Text) (tree : Tree) (p : Parts) (at : Place → ℕ) (here : Option Text) (me : Option ℕ) → sound.after p me (length names) (num.sta tree at here names s) ≡ length (num.after tree at here names s)
-slots_after (t.local x) names tree p at here me = refl
-slots_after _ names tree p at here me = refl
+slots_after : (s : t.Sta) (names : List Text) (tree : Tree) (at : Place → ℕ) (here : Option Text) → sound.after (length names) (num.sta tree at here names s) ≡ length (num.after names s)
+slots_after (t.local x) names tree at here = refl
+slots_after _ names tree at here = refl
 
-slots_first : (s : t.First) (names : List Text) (tree : Tree) (p : Parts) (at : Place → ℕ) (here : Option Text) (me : Option ℕ) → sound.after_first p me (length names) (num.first tree at here names s) ≡ length (num.after_first tree at here names s)
-slots_first (t.local_first x) names tree p at here me = refl
-slots_first _ names tree p at here me = refl
+slots_first : (s : t.First) (names : List Text) (tree : Tree) (at : Place → ℕ) (here : Option Text) → sound.after_first (length names) (num.first tree at here names s) ≡ length (num.after_first names s)
+slots_first (t.local_first x) names tree at here = refl
+slots_first _ names tree at here = refl
 
 module _ (tree : Tree) (p : Parts) (here : Option Text) (me : Option ℕ) (answers : Bool) where
   abbrev All : List Use → Type 0
@@ -88,10 +88,10 @@ module _ (tree : Tree) (p : Parts) (here : Option Text) (me : Option ℕ) (answe
   first_of_for scope names knows (t.run_first e) f w = exp_of scope names knows e f w
 
   -- a statement in front of others
-  in_front : (x : t.Sta) (more : t.Stas) (names : List Text) (loops : Bool) → GoodSta names loops x → GoodStas (num.after tree at here names x) loops more → GoodStas names loops (t.next x more)
+  in_front : (x : t.Sta) (more : t.Stas) (names : List Text) (loops : Bool) → GoodSta names loops x → GoodStas (num.after names x) loops more → GoodStas names loops (t.next x more)
   in_front x more names loops (calls, s) (rest, r) = (
     (calls, rest),
-    (s, subst (λ k. SoundStas p me answers k loops (num.stas tree at here (num.after tree at here names x) more)) (sym (slots_after x names tree p at here me)) r),
+    (s, subst (λ k. SoundStas p me answers k loops (num.stas tree at here (num.after names x) more)) (sym (slots_after x names tree at here)) r),
   )
 
   -- the parts of a `for`
@@ -100,22 +100,22 @@ module _ (tree : Tree) (p : Parts) (here : Option Text) (me : Option ℕ) (answe
       (IfCalls tree at p here inner e × ExpsCall tree at p here inner last × StaCalls tree at p here inner x)
       × (Sound p me (length inner) (num.exp_or tree at here inner (l.Bool true) e) × AllSound p me (length inner) (num.exps tree at here inner last) × SoundSta p me answers (length inner) true (num.sta tree at here inner x))
 
-  for_all : (names : List Text) (loops : Bool) (start : t.First) (e : Option t.Exp) (last : t.Exps) (x : t.Sta) → GoodFirst names start → GoodParts (num.after_first tree at here names start) e last x
+  for_all : (names : List Text) (loops : Bool) (start : t.First) (e : Option t.Exp) (last : t.Exps) (x : t.Sta) → GoodFirst names start → GoodParts (num.after_first names start) e last x
       → GoodSta names loops (t.for start e last x)
   for_all names loops start e last x (calls, s) ((a, b, d), sounds) = (
     (calls, a, b, d),
     (s, (moved sounds).0, (moved sounds).1, (moved sounds).2),
   ) where
-    moved : Sound p me (length (num.after_first tree at here names start)) (num.exp_or tree at here (num.after_first tree at here names start) (l.Bool true) e)
-        × AllSound p me (length (num.after_first tree at here names start)) (num.exps tree at here (num.after_first tree at here names start) last)
-        × SoundSta p me answers (length (num.after_first tree at here names start)) true (num.sta tree at here (num.after_first tree at here names start) x)
-        → Sound p me (sound.after_first p me (length names) (num.first tree at here names start)) (num.exp_or tree at here (num.after_first tree at here names start) (l.Bool true) e)
-        × AllSound p me (sound.after_first p me (length names) (num.first tree at here names start)) (num.exps tree at here (num.after_first tree at here names start) last)
-        × SoundSta p me answers (sound.after_first p me (length names) (num.first tree at here names start)) true (num.sta tree at here (num.after_first tree at here names start) x)
+    moved : Sound p me (length (num.after_first names start)) (num.exp_or tree at here (num.after_first names start) (l.Bool true) e)
+        × AllSound p me (length (num.after_first names start)) (num.exps tree at here (num.after_first names start) last)
+        × SoundSta p me answers (length (num.after_first names start)) true (num.sta tree at here (num.after_first names start) x)
+        → Sound p me (sound.after_first (length names) (num.first tree at here names start)) (num.exp_or tree at here (num.after_first names start) (l.Bool true) e)
+        × AllSound p me (sound.after_first (length names) (num.first tree at here names start)) (num.exps tree at here (num.after_first names start) last)
+        × SoundSta p me answers (sound.after_first (length names) (num.first tree at here names start)) true (num.sta tree at here (num.after_first names start) x)
     moved h = subst (λ k.
-        Sound p me k (num.exp_or tree at here (num.after_first tree at here names start) (l.Bool true) e)
-        × AllSound p me k (num.exps tree at here (num.after_first tree at here names start) last)
-        × SoundSta p me answers k true (num.sta tree at here (num.after_first tree at here names start) x)) (sym (slots_first start names tree p at here me)) h
+        Sound p me k (num.exp_or tree at here (num.after_first names start) (l.Bool true) e)
+        × AllSound p me k (num.exps tree at here (num.after_first names start) last)
+        × SoundSta p me answers k true (num.sta tree at here (num.after_first names start) x)) (sym (slots_first start names tree at here)) h
 
   abbrev inner_uses : Bool → Scope → t.Sta → List Use
   inner_uses loops scope x = declared_uses scope (declared x) ++ uses.sta loops (opened (declared x) scope) x
@@ -160,13 +160,13 @@ module _ (tree : Tree) (p : Parts) (here : Option Text) (me : Option ℕ) (answe
     good_sta (t.for start e last x) scope names loops knows f (w, v, u, z) =
         for_all names loops start e last x
         (first_of_for scope names knows start (both (uses.first_uses scope start) (part_uses (uses.after_first start scope) e last x) f).0 w)
-        (three (exps.good_if tree p here me answers (uses.after_first start scope) (num.after_first tree at here names start) (knows_first start scope names tree at here knows) e (l.Bool true)
+        (three (exps.good_if tree p here me answers (uses.after_first start scope) (num.after_first names start) (knows_first start scope names knows) e (l.Bool true)
         (both (uses.exp_if (uses.after_first start scope) e) (uses.exps (uses.after_first start scope) last ++ inner_uses true (uses.after_first start scope) x) (both (uses.first_uses scope start) (part_uses (uses.after_first start scope) e last x) f).1).0 v)
-        (exps.good_all tree p here me answers (uses.after_first start scope) (num.after_first tree at here names start) (knows_first start scope names tree at here knows) last
+        (exps.good_all tree p here me answers (uses.after_first start scope) (num.after_first names start) (knows_first start scope names knows) last
         (both (uses.exps (uses.after_first start scope) last) (inner_uses true (uses.after_first start scope) x)
         (both (uses.exp_if (uses.after_first start scope) e) (uses.exps (uses.after_first start scope) last ++ inner_uses true (uses.after_first start scope) x) (both (uses.first_uses scope start) (part_uses (uses.after_first start scope) e last x) f).1).1).0 u)
-        (good_sta x (opened (declared x) (uses.after_first start scope)) (num.after_first tree at here names start) true
-        (knows_opened (declared x) (uses.after_first start scope) (num.after_first tree at here names start) (knows_first start scope names tree at here knows))
+        (good_sta x (opened (declared x) (uses.after_first start scope)) (num.after_first names start) true
+        (knows_opened (declared x) (uses.after_first start scope) (num.after_first names start) (knows_first start scope names knows))
         (alone true (uses.after_first start scope) x (both (uses.exps (uses.after_first start scope) last) (inner_uses true (uses.after_first start scope) x)
         (both (uses.exp_if (uses.after_first start scope) e) (uses.exps (uses.after_first start scope) last ++ inner_uses true (uses.after_first start scope) x) (both (uses.first_uses scope start) (part_uses (uses.after_first start scope) e last x) f).1).1).1) z))
     good_sta (t.break span) scope names loops knows (f, g) w = (tt, f)
@@ -179,4 +179,4 @@ module _ (tree : Tree) (p : Parts) (here : Option Text) (me : Option ℕ) (answe
     good_stas t.done scope names loops knows f w = (tt, tt)
     good_stas (t.next x more) scope names loops knows f (w, v) =
         in_front x more names loops (good_sta x scope names loops knows (both (uses.sta loops scope x) (uses.stas loops (uses.after x scope) more) f).0 w)
-        (good_stas more (uses.after x scope) (num.after tree at here names x) loops (knows_after x scope names tree at here knows) (both (uses.sta loops scope x) (uses.stas loops (uses.after x scope) more) f).1 v)
+        (good_stas more (uses.after x scope) (num.after names x) loops (knows_after x scope names knows) (both (uses.sta loops scope x) (uses.stas loops (uses.after x scope) more) f).1 v)

@@ -15,8 +15,8 @@ use Rattle.program.specs.declared.numbered.Function.{Function}
 use Rattle.program.specs.Parts.{Parts}
 use Rattle.program.specs.Sound.{FunctionAccepts}
 use Rattle.dart_values.specs.Values.{Text}
-use Rattle.dart_meaning.specs.Numbered.{literal}
-use Rattle.dart_meaning.specs.Classes.{class_named, function_at, functions, is_abstract, is_constructed, literal_or_null, object, variable_at, variable_place, variables}
+use Rattle.dart_meaning.specs.Literals.{literal, literal_or_null}
+use Rattle.dart_meaning.specs.Classes.{class_named, function_at, functions, is_abstract, is_constructed, object, variable_at, variable_place, variables}
 use Rattle.dart_meaning.specs.Means.{is_built_in, print_name, top_name, top_named}
 use Rattle.dart_meaning.specs.Numbering as num
 use Rattle.dart_meaning.specs.Forms.{FunctionForm, function_form}

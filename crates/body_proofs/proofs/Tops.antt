@@ -89,8 +89,8 @@ module _ (tree : Tree) (p : Parts) (tables : Tables tree p) where
     abbrev number : ℕ
     number = class_number tree c.name.text
 
-    declares : (name : Text) → classes.class_declares tree here name ≡ list_any (classes.is_member name) c.members
-    declares name = ap (λ o. list_any (classes.is_member name) (unwrap_or (option_map (λ (k : ClassDecl). k.members) o) [])) named
+    declares : (name : Text) → classes.class_declares tree here name ≡ classes.is_own_member (Some c) name
+    declares name = ap (λ o. classes.is_own_member o name) named
 
     member_placed : (xs : List Use) → Placed tree p (part of_member (Some c) xs) here (Some number) true
     member_placed xs = record { declares = declares; this = λ e. refl; above = λ e. tables.above c named; may_answer = λ e. refl }

@@ -14,9 +14,9 @@ use Rattle.dart_meaning.specs.declared.seen.Seen.{Seen}
 use Rattle.dart_meaning.specs.declared.seen.Seen.TheVariants.{Late, Ready}
 use Rattle.dart_meaning.specs.Place.{Place, reading, writing}
 use Rattle.dart_meaning.specs.Program.{calling, getting, setting}
-use Rattle.dart_meaning.specs.Classes.{Taking, agrees, class_declares, is_constructed, variable_place}
-use Rattle.dart_meaning.specs.Meaning.{scope_by}
-use Rattle.dart_meaning.specs.Means.{a_top, beyond, has_this, is_class, is_of_this, is_own_member, is_top, means, super_member, top_named}
+use Rattle.dart_meaning.specs.Classes.{Taking, agrees, class_declares, is_constructed, is_own_member, variable_place}
+use Rattle.dart_meaning.specs.Meaning.{owner_by}
+use Rattle.dart_meaning.specs.Means.{a_top, beyond, has_this, is_class, is_of_this, is_top, means, super_member, top_named}
 use Rattle.dart_meaning.specs.Numbering as num
 use Rattle.dart_meaning.specs.Sites.{Site, site, if_of_this, site_of}
 use Rattle.dart_meaning.specs.Uses as uses
@@ -79,7 +79,7 @@ module _ (tree : Tree) (p : Parts) (tables : Tables tree p) (part : Part) (here 
   -- ---- names that are read and written
 
   abbrev Outside : Bool → Bool → Name → Place → Selector → Type 0
-  Outside d v n place sel = FineOutside tree p here me answers (scope_by false d v) n.text place sel
+  Outside d v n place sel = FineOutside tree p here me answers (owner_by false d v) n.text place sel
 
   abbrev Global : Name → Type 0
   Global n = num.variable tree (site_of tree) here n.text < length p.globals

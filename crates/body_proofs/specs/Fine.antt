@@ -12,9 +12,8 @@ use Rattle.dart_meaning.specs.declared.seen.Seen.{Seen}
 use Rattle.dart_meaning.specs.declared.seen.Seen.TheVariants.{Late, Ready}
 use Rattle.dart_meaning.specs.Place.{Place, reading, writing}
 use Rattle.dart_meaning.specs.Program.{calling, getting, setting, to_string}
-use Rattle.dart_meaning.specs.Operators.{operator_of}
 use Rattle.dart_meaning.specs.Classes.{class_declares, class_number, is_constructed, variable_place}
-use Rattle.dart_meaning.specs.Meaning.{Scope, of_body, of_this, of_unit, scope_by}
+use Rattle.dart_meaning.specs.Meaning.{Owner, of_body, of_this, of_unit, owner_by}
 use Rattle.dart_meaning.specs.Numbering as num
 use Rattle.dart_meaning.specs.Sites.{site_of, prefix_name}
 use Rattle.dart_meaning.specs.Uses.{Use, reads, writes, calls, this_at, super_reads, super_writes, super_calls, member_reads, member_writes, member_calls, index_reads, index_writes, operates, prefixes, shows, names_class, leaves_loop, returns_value}
@@ -33,7 +32,7 @@ module _ (tree : Tree) (p : Parts) (here : Option Text) (me : Option ℕ) (answe
   AsksThis place sel = HasThis × Asks place sel
 
   -- a bare name that is read or written, and that no local has
-  abbrev pub FineOutside : Scope → Text → Place → Selector → Type 0
+  abbrev pub FineOutside : Owner → Text → Place → Selector → Type 0
   FineOutside of_body name place sel = Unit {0}
   FineOutside of_this name place sel = AsksThis place sel
   FineOutside of_unit name place sel = num.variable tree (site_of tree) here name < length p.globals
@@ -41,7 +40,7 @@ module _ (tree : Tree) (p : Parts) (here : Option Text) (me : Option ℕ) (answe
   abbrev pub FineName : Option Seen → Text → Place → Selector → Type 0
   FineName (Some Late) name place sel = ⊥
   FineName (Some (Ready is_final)) name place sel = Unit {0}
-  FineName None name place sel = FineOutside (scope_by false (class_declares tree here name) (is_some (variable_place tree name))) name place sel
+  FineName None name place sel = FineOutside (owner_by false (class_declares tree here name) (is_some (variable_place tree name))) name place sel
 
   -- a bare name that is called with so many arguments: whether the class declares it, the function of this name, whether it is a class, and whether it is `print`
   abbrev pub FineCall : Bool → Option ℕ → Bool → Bool → Name → ℕ → Type 0
@@ -64,7 +63,7 @@ module _ (tree : Tree) (p : Parts) (here : Option Text) (me : Option ℕ) (answe
   Fine (member_calls n k) = Asks (reading n.span.start) (calling n.text k)
   Fine (index_reads at) = Asks (reading at.start) (calling (codes "[]") 1)
   Fine (index_writes at) = Asks (writing at.start) (calling (codes "[]=") 2)
-  Fine (operates op at) = Asks (reading at.start) (calling (binary_name (operator_of op)) 1)
+  Fine (operates op at) = Asks (reading at.start) (calling (binary_name op) 1)
   Fine (prefixes op at) = Asks (reading at.start) (calling (prefix_name op) 0)
   Fine (shows at) = Asks (reading at.start) to_string
   Fine (names_class n) = class_number tree n.text < length p.classes
