@@ -15,7 +15,7 @@ use Rattle.program.specs.Parts.{Parts}
 use Rattle.program.specs.Sizes.{size, exps_size, stas_size, method_size, function_size, constructor_size}
 use Rattle.dart_values.specs.Values.{Text, Value}
 use Rattle.dart_meaning.specs.Classes as classes
-use Rattle.dart_meaning.specs.Classes.{functions, variables, class_named, class_names, class_at, function_at, variable_at, required, first_some, if_so, constructor_in, literal_or_null}
+use Rattle.dart_meaning.specs.Classes.{functions, variables, class_named, class_names, class_at, function_at, variable_at, required, first_some, if_so, constructor_in}
 use Rattle.dart_meaning.specs.Operators.{operator_name}
 use Rattle.dart_meaning.specs.Entry.{globals_of}
 use Rattle.dart_meaning.specs.Sites.{site_of}
@@ -25,7 +25,7 @@ use Rattle.dart_meaning.specs.NumberedForm.{IsNumberedOf, default, defaults, num
 use Rattle.text_trees.specs.Nodes.{all_nodes, exp_nodes, body_nodes, some_body_nodes, some_block_nodes, passed_nodes, exps_nodes, stas_nodes, member_nodes, class_nodes, function_nodes, top_nodes, tree_nodes}
 use Rattle.text_trees.proofs.Sizes.{exp_fits, exps_fit, stas_fit}
 use Rattle.class_proofs.proofs.Lists.{In, NoTwice, same_or_other, other_text, text_self}
-use Rattle.dart_meaning.specs.Numbered.{literal}
+use Rattle.dart_meaning.specs.Literals.{literal, literal_or_null}
 use Rattle.accepted_trees.proofs.Forms.{body_form_size, does_size, method_form_size, function_form_size, constructor_form_size, method_sized, function_sized, constructor_sized}
 use Rattle.accepted_trees.proofs.Sums.{summed, sum_of_map, sum_of_both, sum_of_each, sum_no_more, sum_same}
 

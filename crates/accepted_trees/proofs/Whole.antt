@@ -17,11 +17,9 @@ use Rattle.dart_values.specs.Values.{Text}
 use Rattle.dart_meaning.specs.Classes as classes
 use Rattle.dart_meaning.specs.Classes.{Taking, agrees, class_at, class_named, class_number}
 use Rattle.dart_meaning.specs.Means.{super_member}
-use Rattle.dart_meaning.specs.Numbered as n
-use Rattle.dart_meaning.specs.Numbered.{literal}
 use Rattle.dart_meaning.specs.Numbering as num
 use Rattle.dart_meaning.specs.Sites.{site_of}
-use Rattle.dart_meaning.specs.Agree.{Agree, IsCode}
+use Rattle.dart_meaning.specs.Agree.{Agree}
 use Rattle.dart_meaning.specs.Entry.{entry_meaning}
 use Rattle.dart_meaning.specs.Numbered.{entry_meaning_n}
 use Rattle.dart_meaning.proofs.BodiesAgree.{numbered_is_same}
