@@ -1,5 +1,5 @@
 -- No numbered form of a part of a tree has more nodes than the part.
-use Rattle.std.proofs.Common.{ℕ, zero, suc, ◌+◌, ◌≤◌, ◌≡◌, Bool, true, List, length, map, replicate, Option, Some, None, refl, ap, codes, arith, length-append}
+use Rattle.std.proofs.Common.{ℕ, zero, suc, ◌+◌, ◌≤◌, ◌≡◌, true, List, length, map, replicate, Option, Some, None, refl, ap, codes, arith, length-append}
 use Rattle.std.specs.Str.{bytes_eq}
 use Rattle.std.proofs.lemmas.List.{length-map}
 use Rattle.dart_syntax.specs.declared.token.Span.{Span}

@@ -3,7 +3,6 @@ use Rattle.std.proofs.Common.{◌≡◌, ℕ, ◌+◌, ◌*◌, ◌≤◌, Bool,
 use Rattle.dart_syntax.specs.declared.token.Span.{Span}
 use Rattle.dart_syntax.specs.declared.token.TokenKind.{TokenKind}
 use Rattle.dart_syntax.specs.declared.token.TokenKind.TheVariants as tk
-use Rattle.dart_syntax.specs.declared.tree.Name.{Name}
 use Rattle.dart_syntax.specs.declared.tree.Unary.{Unary}
 use Rattle.dart_syntax.specs.declared.tree.Unary.TheVariants as unary
 use Rattle.program.specs.declared.body.BinaryOperator.{BinaryOperator}
