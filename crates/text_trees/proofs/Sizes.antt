@@ -1,7 +1,6 @@
 -- No numbered form of a part of a tree has more nodes than the part.
-use Rattle.std.proofs.Common.{ℕ, zero, suc, ◌+◌, ◌≤◌, ◌≡◌, true, List, length, map, replicate, Option, Some, None, refl, ap, codes, arith, length-append}
+use Rattle.std.proofs.Common.{ℕ, suc, ◌+◌, ◌≤◌, true, List, Option, Some, None, codes, arith}
 use Rattle.std.specs.Str.{bytes_eq}
-use Rattle.std.proofs.lemmas.List.{length-map}
 use Rattle.dart_syntax.specs.declared.token.Span.{Span}
 use Rattle.dart_syntax.specs.declared.tree.Name.{Name}
 use Rattle.dart_syntax.specs.declared.tree.Unary.{Unary}
@@ -12,24 +11,16 @@ use Rattle.dart_syntax.specs.Syntax.{Tree, Param}
 use Rattle.program.specs.declared.literal.Literal.{Literal}
 use Rattle.program.specs.declared.literal.Literal.TheVariants as l
 use Rattle.program.specs.declared.body.BinaryOperator.{BinaryOperator}
-use Rattle.program.specs.declared.body.Body.{Body}
-use Rattle.program.specs.declared.body.Body.TheVariants as body
-use Rattle.program.specs.declared.numbered.Constructor.{Constructor}
-use Rattle.program.specs.declared.numbered.Function.{Function}
 use Rattle.program.specs.Bodies as c
-use Rattle.program.specs.Parts.{Parts}
-use Rattle.program.specs.Sizes.{exp_size, exps_size, pieces_size, calls_size, links_size, target_size, update_size, first_size, sta_size, stas_size, body_size, function_size, constructor_size}
-use Rattle.dart_values.specs.Values.{Value, null}
+use Rattle.program.specs.Sizes.{exp_size, exps_size, pieces_size, calls_size, links_size, target_size, update_size, first_size, sta_size, stas_size}
 use Rattle.dart_meaning.specs.Place.{Place}
-use Rattle.dart_meaning.specs.Classes as classes
 use Rattle.dart_meaning.specs.Classes.{class_declares, is_constructed}
-use Rattle.dart_meaning.specs.Literals.{literal, literal_or_null, negated}
+use Rattle.dart_meaning.specs.Literals.{negated}
 use Rattle.dart_meaning.specs.Operators.{compound}
 use Rattle.dart_meaning.specs.Meaning.{Owner, of_body, of_this, of_unit}
 use Rattle.dart_meaning.specs.Numbering as num
 use Rattle.dart_meaning.specs.Numbering.{Assignable}
-use Rattle.dart_meaning.specs.Agree.{IsBody, AreParams, IsFunction, IsConstructor}
-use Rattle.text_trees.specs.Nodes.{exp_nodes, exps_nodes, pieces_nodes, links_nodes, selectors_nodes, selector_nodes, value_nodes, first_nodes, sta_nodes, stas_nodes, body_nodes, function_nodes}
+use Rattle.text_trees.specs.Nodes.{exp_nodes, exps_nodes, pieces_nodes, links_nodes, selectors_nodes, selector_nodes, value_nodes, first_nodes, sta_nodes, stas_nodes}
 use Rattle.text_trees.proofs.Weights.{split}
 
 -- the expressions of what is assigned to
@@ -192,29 +183,3 @@ module _ (tree : Tree) (site_of : Place → ℕ) (here : Option Text) where
     pub stas_fit : (names : List Text) (xs : t.Stas) → stas_size (num.stas tree site_of here names xs) ≤ stas_nodes xs
     stas_fit names t.done = omega arith
     stas_fit names (t.next x more) = omega (arith, sta_fits names x, stas_fit (num.after names x) more)
-
-  -- ---- bodies that are the numbered form of those of the tree
-
-  pub body_fits : (p : Parts) (names : List Text) (b : t.Body) (x : Body) → IsBody tree site_of p here names b x → body_size x ≤ body_nodes b
-  body_fits p names (t.arrow e) (body.Arrow x) h = omega (arith, ap exp_size h.0, exp_fits names e)
-  body_fits p names (t.code all) (body.Block x) h = omega (arith, ap stas_size h.0, stas_fit names all)
-  body_fits p names (t.arrow e) (body.Block x) h = absurd h
-  body_fits p names (t.code all) (body.Arrow x) h = absurd h
-
-replicated : {A : Type 0} (n : ℕ) (a : A) → length (replicate n a) ≡ n
-replicated zero a = refl
-replicated (suc n) a = omega (arith, replicated n a)
-
--- as many parameters as the tree has
-pub params_fit : (tree : Tree) (site_of : Place → ℕ) (p : Parts) (params : List Param) (required : ℕ) (defaults : List Literal) → AreParams tree site_of p params required defaults → required + length defaults ≡ length params
-params_fit tree site_of p params required defaults h =
-    let same = ap (λ (xs : List Value). length xs) h in
-    omega (arith, same, length-append (replicate required null) (map literal defaults), replicated required null, length-map defaults literal, length-map params (λ (k : Param). literal_or_null k.default))
-
-pub function_fits : (tree : Tree) (site_of : Place → ℕ) (p : Parts) (f : t.Function) (k : Function) → IsFunction tree site_of p f k → function_size k ≤ function_nodes f
-function_fits tree site_of p f k h = omega (arith, params_fit tree site_of p f.params k.required k.defaults h.0, body_fits tree site_of None p (num.param_names f.params) f.body k.body h.1)
-
-pub constructor_fits : (tree : Tree) (site_of : Place → ℕ) (p : Parts) (class : Text) (k : classes.Constructor) (b : Constructor) → IsConstructor tree site_of p class k b
-    → constructor_size (Some b) ≤ length k.params + exps_nodes k.passes + stas_nodes k.body
-constructor_fits tree site_of p class k b h =
-    omega (arith, params_fit tree site_of p k.params b.required b.defaults h.params, ap exps_size h.passes, ap stas_size h.body, exps_fit tree site_of (Some class) (num.param_names k.params) k.passes, stas_fit tree site_of (Some class) (num.body_names k.params) k.body)
