@@ -14,7 +14,7 @@ use Rattle.dart_meaning.specs.Classes.{functions, function_at, required}
 use Rattle.dart_meaning.specs.Numbered.{literal}
 use Rattle.dart_meaning.specs.Forms.{Form, FunctionForm, function_form}
 use Rattle.dart_meaning.specs.NumberedForm.{IsNumberedOf, defaults, numbered_function}
-use Rattle.class_proofs.proofs.members.Forms.{params_count}
+use Rattle.accepted_trees.proofs.members.Declared.{params_count}
 use Rattle.resolver.specs.Entries.{is_entry_named, is_entry_top, has_entry}
 
 -- ---- one function
