@@ -20,7 +20,7 @@ use Rattle.dart_meaning.specs.Sites.{site_of}
 use Rattle.dart_meaning.proofs.ExpsAgree.{StandsAt, first_place, from_front}
 use Rattle.dart_meaning.specs.Forms.{Form, FunctionForm, function_form}
 use Rattle.dart_meaning.specs.NumberedForm.{IsNumberedOf, defaults, numbered_function}
-use Rattle.class_proofs.proofs.members.Forms.{params_count}
+use Rattle.accepted_trees.proofs.members.Declared.{params_count}
 use Rattle.resolver.specs.Entries.{EntriesMean}
 
 -- ---- one function

@@ -3,7 +3,7 @@ use Rattle.std.proofs.Common.{◌≡◌, ℕ, suc, ◌-◌, ◌<◌, ◌≤◌, 
 use Rattle.dart_syntax.specs.declared.token.Sign.{Sign}
 use Rattle.dart_syntax.specs.declared.open.Open.{Open}
 use Rattle.dart_syntax.specs.Words.{Tokens}
-use Rattle.dart_syntax.specs.Bytes.{Text, span}
+use Rattle.dart_syntax.specs.Bytes.{Text}
 use Rattle.dart_syntax.specs.Signs.{Table, signs, Spells}
 use Rattle.dart_syntax.specs.Strings.{Segment}
 use Rattle.dart_syntax.specs.Strings as st
