@@ -28,8 +28,8 @@ use Rattle.dart_syntax.specs.Tokens.{Takes, Runs, TokenList}
 use Rattle.dart_syntax.specs.Tokens as to
 use Rattle.dart_syntax.specs.ProperTokens.{IsProperKind, IsProper}
 use Rattle.dart_syntax.proofs.TokenLists.{proper_tokens}
-use Rattle.read_back.specs.ReadsBack.{AreUnits, IsPossible, ArePossible}
-use Rattle.read_back.proofs.Marks.{both_true}
+use Rattle.dart_printer.specs.ReadsBack.{AreUnits, IsPossible, ArePossible}
+use Rattle.dart_printer.proofs.Marks.{both_true}
 
 split : {G : Type 0} (b : Bool) → (b ≡ true → G) → (b ≡ false → G) → G
 split true f g = f refl

@@ -17,8 +17,8 @@ use Rattle.dart_syntax.specs.Signs.{Table, signs, Spells}
 use Rattle.dart_syntax.specs.Tokens.{Takes, inside, is_blank}
 use Rattle.dart_syntax.specs.Tokens as to
 use Rattle.dart_syntax.specs.Text.{word}
-use Rattle.read_back.proofs.Lists.{one}
-use Rattle.read_back.proofs.Cuts.{Cut, cut_one, Closed, blank_is}
+use Rattle.dart_printer.proofs.Lists.{one}
+use Rattle.dart_printer.proofs.Cuts.{Cut, cut_one, Closed, blank_is}
 
 -- ---- ASCII
 

@@ -17,10 +17,10 @@ use Rattle.dart_syntax.specs.Numbers.{hex_value, value_from, value, decimal_kind
 use Rattle.dart_syntax.specs.Tokens.{inside, is_blank, is_hex, starts_x, is_x}
 use Rattle.dart_syntax.specs.Tokens as to
 use Rattle.dart_syntax.specs.Text.{word, int_text}
-use Rattle.read_back.specs.ReadsBack.{IsPossible}
-use Rattle.read_back.proofs.Lists.{one}
-use Rattle.read_back.proofs.Cuts.{cut_one, Closed, blank_is}
-use Rattle.read_back.proofs.Marks.{closed_word, ascii_is}
+use Rattle.dart_printer.specs.ReadsBack.{IsPossible}
+use Rattle.dart_printer.proofs.Lists.{one}
+use Rattle.dart_printer.proofs.Cuts.{cut_one, Closed, blank_is}
+use Rattle.dart_printer.proofs.Marks.{closed_word, ascii_is}
 
 -- ---- digits
 

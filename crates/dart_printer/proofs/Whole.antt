@@ -13,15 +13,15 @@ use Rattle.dart_syntax.specs.Tokens as to
 use Rattle.dart_syntax.specs.Text.{line, top_text, text}
 use Rattle.dart_syntax.specs.Grammar.{Reading, Many, ExprWithin, StmtWithin}
 use Rattle.dart_syntax.specs.Derivation.{TopText, LEVELS, Derives}
-use Rattle.read_back.specs.Spans.{bare_top}
-use Rattle.read_back.specs.ReadsBack.{ArePossible, ReadsBack}
-use Rattle.read_back.proofs.Lists.{Kinds, place, put_back}
-use Rattle.read_back.proofs.Cuts.{Cut, cut_two, cut_nothing}
-use Rattle.read_back.proofs.Marks.{ascii_is}
-use Rattle.read_back.proofs.Back.{GivesBack}
-use Rattle.read_back.proofs.Expressions.{expr_back}
-use Rattle.read_back.proofs.Statements.{GivesStaBack, stmt_back}
-use Rattle.read_back.proofs.Tops.{Ended, empty, closed, tops_back}
+use Rattle.dart_printer.specs.Spans.{bare_top}
+use Rattle.dart_printer.specs.ReadsBack.{ArePossible, ReadsBack}
+use Rattle.dart_printer.proofs.Lists.{Kinds, place, put_back}
+use Rattle.dart_printer.proofs.Cuts.{Cut, cut_two, cut_nothing}
+use Rattle.dart_printer.proofs.Marks.{ascii_is}
+use Rattle.dart_printer.proofs.Back.{GivesBack}
+use Rattle.dart_printer.proofs.Expressions.{expr_back}
+use Rattle.dart_printer.proofs.Statements.{GivesStaBack, stmt_back}
+use Rattle.dart_printer.proofs.Tops.{Ended, empty, closed, tops_back}
 
 line_is : (core : Text) → line (core ++ 32 ∷ []) ≡ core ++ 10 ∷ []
 line_is core = let e : length (core ++ 32 ∷ []) - 1 ≡ length core = omega (arith, length-append core (32 ∷ [])) in ap (λ t. t ++ 10 ∷ []) (rw e (grind (arith, common_steps)))

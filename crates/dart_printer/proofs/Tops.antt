@@ -15,18 +15,18 @@ use Rattle.dart_syntax.specs.Grammar.{Reading, Many}
 use Rattle.dart_syntax.specs.Grammar as gr
 use Rattle.dart_syntax.specs.Derivation.{any, Ret, Meta, ClassText, Declared, TopText}
 use Rattle.dart_syntax.specs.Derivation as de
-use Rattle.read_back.specs.Spans.{nowhere, bare_class, bare_top}
-use Rattle.read_back.specs.ReadsBack.{ArePossible}
-use Rattle.read_back.proofs.Lists.{Kinds, nothing, one, both, put}
-use Rattle.read_back.proofs.Cuts.{cut_then, cut_nothing, Cuts, Closed, cuts_of, cuts_none, cuts_then, closed_then, closed_left}
-use Rattle.read_back.proofs.Marks.{name_word}
-use Rattle.read_back.proofs.Keywords.{abstract_word, class_word, var_word, final_word}
-use Rattle.read_back.proofs.SignTexts.{at, paren_open, paren_close, assign, in_braces, braces}
-use Rattle.read_back.proofs.StringTexts.{string_word}
-use Rattle.read_back.proofs.Back.{found, Back, GivesBack}
-use Rattle.read_back.proofs.Statements.{GivesStaBack}
-use Rattle.read_back.proofs.Parts.{given_back, value_back, params_back, ret_behind, metas_behind, parent_back, interfaces_back, body_back}
-use Rattle.read_back.proofs.Members.{members_back, params_cuts}
+use Rattle.dart_printer.specs.Spans.{nowhere, bare_class, bare_top}
+use Rattle.dart_printer.specs.ReadsBack.{ArePossible}
+use Rattle.dart_printer.proofs.Lists.{Kinds, nothing, one, both, put}
+use Rattle.dart_printer.proofs.Cuts.{cut_then, cut_nothing, Cuts, Closed, cuts_of, cuts_none, cuts_then, closed_then, closed_left}
+use Rattle.dart_printer.proofs.Marks.{name_word}
+use Rattle.dart_printer.proofs.Keywords.{abstract_word, class_word, var_word, final_word}
+use Rattle.dart_printer.proofs.SignTexts.{at, paren_open, paren_close, assign, in_braces, braces}
+use Rattle.dart_printer.proofs.StringTexts.{string_word}
+use Rattle.dart_printer.proofs.Back.{found, Back, GivesBack}
+use Rattle.dart_printer.proofs.Statements.{GivesStaBack}
+use Rattle.dart_printer.proofs.Parts.{given_back, value_back, params_back, ret_behind, metas_behind, parent_back, interfaces_back, body_back}
+use Rattle.dart_printer.proofs.Members.{members_back, params_cuts}
 
 -- ---- what stands before `class`, and with it
 

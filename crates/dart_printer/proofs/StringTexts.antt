@@ -17,10 +17,10 @@ use Rattle.dart_syntax.specs.Tokens.{inside, is_blank}
 use Rattle.dart_syntax.specs.Tokens as to
 use Rattle.dart_syntax.specs.Text.{word, digit, unit_text, units_text}
 use Rattle.dart_syntax.specs.Text as tx
-use Rattle.read_back.specs.ReadsBack.{AreUnits}
-use Rattle.read_back.proofs.Lists.{Kinds, one, both}
-use Rattle.read_back.proofs.Cuts.{Cut, cut_one, cut_two, cut_then, Cuts, Closed}
-use Rattle.read_back.proofs.Marks.{closed_word, ascii_is}
+use Rattle.dart_printer.specs.ReadsBack.{AreUnits}
+use Rattle.dart_printer.proofs.Lists.{Kinds, one, both}
+use Rattle.dart_printer.proofs.Cuts.{Cut, cut_one, cut_two, cut_then, Cuts, Closed}
+use Rattle.dart_printer.proofs.Marks.{closed_word, ascii_is}
 
 split : {G : Type 0} (b : Bool) → (b ≡ true → G) → (b ≡ false → G) → G
 split true f g = f refl

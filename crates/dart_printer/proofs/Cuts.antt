@@ -11,7 +11,7 @@ use Rattle.dart_syntax.specs.Words.{Tokens, token}
 use Rattle.dart_syntax.specs.Bytes.{Text}
 use Rattle.dart_syntax.specs.Tokens.{Takes, Runs, inside, is_blank}
 use Rattle.dart_syntax.specs.Tokens as to
-use Rattle.read_back.proofs.Lists.{Kinds, nothing, one, both, flat, kind_of}
+use Rattle.dart_printer.proofs.Lists.{Kinds, nothing, one, both, flat, kind_of}
 
 -- tokens of these kinds, from one text to another, and from what is open before them to what is open behind them
 pub record Cut (n : ℕ) (o : List Open) (bs : Text) (kinds : Kinds) (p : List Open) (rest : Text) : Type 0 where

@@ -12,16 +12,16 @@ use Rattle.dart_syntax.specs.Operators.{named, may_precede}
 use Rattle.dart_syntax.specs.Text.{word, exp_text, links_text, binary_text}
 use Rattle.dart_syntax.specs.Grammar.{Reading, Many, Postfix, Unary, Under, Links, Level, Chain, Cond, Expression, ExprWithin, UnderWithin, is_target, last_is_written, repeats}
 use Rattle.dart_syntax.specs.Grammar as gr
-use Rattle.read_back.specs.Spans.{nowhere, bare_exp, bare_links, bare_selectors}
-use Rattle.read_back.specs.ReadsBack.{ArePossible}
-use Rattle.read_back.proofs.Lists.{one, both, put}
-use Rattle.read_back.proofs.Cuts.{Cuts, cuts_of, cuts_none, cuts_then, cuts_right}
-use Rattle.read_back.proofs.Marks.{name_word}
-use Rattle.read_back.proofs.Keywords.{is_word, throw_word}
-use Rattle.read_back.proofs.SignTexts.{unary_word, step_word, binary_word, assignment_word, not, question, colon}
-use Rattle.read_back.proofs.Numbers.{least_word}
-use Rattle.read_back.proofs.Back.{found, Back, ExpBack, GivesBack, exp_as, many_back}
-use Rattle.read_back.proofs.Terms.{postfix_back}
+use Rattle.dart_printer.specs.Spans.{nowhere, bare_exp, bare_links, bare_selectors}
+use Rattle.dart_printer.specs.ReadsBack.{ArePossible}
+use Rattle.dart_printer.proofs.Lists.{one, both, put}
+use Rattle.dart_printer.proofs.Cuts.{Cuts, cuts_of, cuts_none, cuts_then, cuts_right}
+use Rattle.dart_printer.proofs.Marks.{name_word}
+use Rattle.dart_printer.proofs.Keywords.{is_word, throw_word}
+use Rattle.dart_printer.proofs.SignTexts.{unary_word, step_word, binary_word, assignment_word, not, question, colon}
+use Rattle.dart_printer.proofs.Numbers.{least_word}
+use Rattle.dart_printer.proofs.Back.{found, Back, ExpBack, GivesBack, exp_as, many_back}
+use Rattle.dart_printer.proofs.Terms.{postfix_back}
 
 -- ---- what may be written to
 

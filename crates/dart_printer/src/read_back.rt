@@ -1,5 +1,4 @@
 //! The canonical text of a tree reads back as the tree.
-#![tactic(auto)]
 
 ghost use Rattle.std.specs.Prelude.{List};
 ghost use Rattle.dart_syntax.specs.declared.token.Token.{Token};
@@ -8,7 +7,7 @@ ghost use Rattle.dart_syntax.specs.Tokens.{TokenList};
 ghost use Rattle.dart_syntax.specs.Syntax.{Tree};
 ghost use Rattle.dart_syntax.specs.Derivation.{Derives};
 ghost use Rattle.dart_syntax.specs.Text as text;
-ghost use Rattle.read_back.specs.ReadsBack.{ArePossible, ReadsBack};
+ghost use Rattle.dart_printer.specs.ReadsBack.{ArePossible, ReadsBack};
 
 /// Of every tree that some list of possible tokens derives, the canonical text has a token list,
 /// and that list derives the tree again, spans aside.

@@ -15,18 +15,18 @@ use Rattle.dart_syntax.specs.Grammar.{Reading, Many}
 use Rattle.dart_syntax.specs.Grammar as gr
 use Rattle.dart_syntax.specs.Derivation.{Literal, Value, Listed, ParamText, Params, Ret, Meta, OperatorText, Parent, CommaName, Interfaces, Block, BodyText, SomeBody, SomeBlock, Rest}
 use Rattle.dart_syntax.specs.Derivation as de
-use Rattle.read_back.specs.Spans.{nowhere, bare_name, bare_exp, bare_stas, bare_param, bare_params, bare_body, bare_passed}
-use Rattle.read_back.specs.ReadsBack.{ArePossible}
-use Rattle.read_back.proofs.Lists.{Kinds, nothing, one, both, put}
-use Rattle.read_back.proofs.Cuts.{Cuts, Closed, cuts_of, cuts_none, cuts_then, cuts_right, closed_then, closed_left}
-use Rattle.read_back.proofs.Marks.{name_word}
-use Rattle.read_back.proofs.Keywords.{null_word, true_word, false_word, this_word, super_word, final_word, extends_word, implements_word}
-use Rattle.read_back.proofs.SignTexts.{paren_open, paren_close, bracket_open, bracket_close, comma, semicolon, assign, minus, dot, arrow, colon, operator_sign, in_braces, braces}
-use Rattle.read_back.proofs.Numbers.{int_word, least_word}
-use Rattle.read_back.proofs.StringTexts.{string_word}
-use Rattle.read_back.proofs.Back.{Found, found, Back, GivesBack, many_back}
-use Rattle.read_back.proofs.Terms.{paren_args}
-use Rattle.read_back.proofs.Statements.{none_else, GivesStaBack, stas_back}
+use Rattle.dart_printer.specs.Spans.{nowhere, bare_name, bare_exp, bare_stas, bare_param, bare_params, bare_body, bare_passed}
+use Rattle.dart_printer.specs.ReadsBack.{ArePossible}
+use Rattle.dart_printer.proofs.Lists.{Kinds, nothing, one, both, put}
+use Rattle.dart_printer.proofs.Cuts.{Cuts, Closed, cuts_of, cuts_none, cuts_then, cuts_right, closed_then, closed_left}
+use Rattle.dart_printer.proofs.Marks.{name_word}
+use Rattle.dart_printer.proofs.Keywords.{null_word, true_word, false_word, this_word, super_word, final_word, extends_word, implements_word}
+use Rattle.dart_printer.proofs.SignTexts.{paren_open, paren_close, bracket_open, bracket_close, comma, semicolon, assign, minus, dot, arrow, colon, operator_sign, in_braces, braces}
+use Rattle.dart_printer.proofs.Numbers.{int_word, least_word}
+use Rattle.dart_printer.proofs.StringTexts.{string_word}
+use Rattle.dart_printer.proofs.Back.{Found, found, Back, GivesBack, many_back}
+use Rattle.dart_printer.proofs.Terms.{paren_args}
+use Rattle.dart_printer.proofs.Statements.{none_else, GivesStaBack, stas_back}
 
 -- ---- values
 

@@ -9,7 +9,7 @@ use Rattle.dart_syntax.specs.Names.{is_name}
 use Rattle.dart_syntax.specs.Tokens.{TokenList}
 use Rattle.dart_syntax.specs.Syntax.{Tree}
 use Rattle.dart_syntax.specs.Derivation.{Derives}
-use Rattle.read_back.specs.Spans.{without_spans}
+use Rattle.dart_printer.specs.Spans.{without_spans}
 
 -- UTF-16 code units
 abbrev pub AreUnits : List ℕ → Type 0

@@ -11,15 +11,15 @@ use Rattle.dart_syntax.specs.Operators.{named}
 use Rattle.dart_syntax.specs.Text.{word, exp_text, exps_text, more_text, option_text, value_text, local_text, first_text, test_text, sta_text, stas_text}
 use Rattle.dart_syntax.specs.Grammar.{Reading, Many, Valued, Initial, Comma, Last, NoElse, Locals, First, Statement, ExprWithin, StmtWithin}
 use Rattle.dart_syntax.specs.Grammar as gr
-use Rattle.read_back.specs.Spans.{nowhere, bare_exp, bare_exps, bare_local, bare_first, bare_sta, bare_stas}
-use Rattle.read_back.specs.ReadsBack.{ArePossible}
-use Rattle.read_back.proofs.Lists.{Kinds, nothing, one, both, put}
-use Rattle.read_back.proofs.Cuts.{Cuts, cuts_of, cuts_none, cuts_then, cuts_left, cuts_right}
-use Rattle.read_back.proofs.Marks.{name_word}
-use Rattle.read_back.proofs.Keywords.{var_word, final_word, if_word, else_word, while_word, do_word, for_word, break_word, continue_word, return_word}
-use Rattle.read_back.proofs.SignTexts.{paren_open, paren_close, comma, semicolon, assign, in_braces, braces}
-use Rattle.read_back.proofs.Back.{starts_else, Found, found, Back, GivesBack, many_back}
-use Rattle.read_back.proofs.Expressions.{expr_back}
+use Rattle.dart_printer.specs.Spans.{nowhere, bare_exp, bare_exps, bare_local, bare_first, bare_sta, bare_stas}
+use Rattle.dart_printer.specs.ReadsBack.{ArePossible}
+use Rattle.dart_printer.proofs.Lists.{Kinds, nothing, one, both, put}
+use Rattle.dart_printer.proofs.Cuts.{Cuts, cuts_of, cuts_none, cuts_then, cuts_left, cuts_right}
+use Rattle.dart_printer.proofs.Marks.{name_word}
+use Rattle.dart_printer.proofs.Keywords.{var_word, final_word, if_word, else_word, while_word, do_word, for_word, break_word, continue_word, return_word}
+use Rattle.dart_printer.proofs.SignTexts.{paren_open, paren_close, comma, semicolon, assign, in_braces, braces}
+use Rattle.dart_printer.proofs.Back.{starts_else, Found, found, Back, GivesBack, many_back}
+use Rattle.dart_printer.proofs.Expressions.{expr_back}
 
 pub none_else : (ts : Tokens) → starts_else ts ≡ false → NoElse ts
 none_else ts h at us e = let g : true ≡ false = sym (ap starts_else e) ∙ h in cc

@@ -15,16 +15,16 @@ use Rattle.dart_syntax.specs.Grammar.{Reading, Many}
 use Rattle.dart_syntax.specs.Grammar as gr
 use Rattle.dart_syntax.specs.Derivation.{same_text, final_or_var, Ret, takes, Marked, MemberText}
 use Rattle.dart_syntax.specs.Derivation as de
-use Rattle.read_back.specs.Spans.{nowhere, bare_param, bare_params, bare_member}
-use Rattle.read_back.specs.ReadsBack.{ArePossible}
-use Rattle.read_back.proofs.Lists.{Kinds, nothing, one, both, put}
-use Rattle.read_back.proofs.Cuts.{Cuts, cuts_of, cuts_none, cuts_then}
-use Rattle.read_back.proofs.Marks.{name_word}
-use Rattle.read_back.proofs.Keywords.{final_word, var_word, void_word, get_word, set_word, operator_word}
-use Rattle.read_back.proofs.SignTexts.{paren_open, paren_close}
-use Rattle.read_back.proofs.Back.{found, Back, GivesBack, many_back}
-use Rattle.read_back.proofs.Statements.{GivesStaBack}
-use Rattle.read_back.proofs.Parts.{value_back, param_back, params_back, ret_behind, metas_behind, operator_back, some_body_back, rest_back}
+use Rattle.dart_printer.specs.Spans.{nowhere, bare_param, bare_params, bare_member}
+use Rattle.dart_printer.specs.ReadsBack.{ArePossible}
+use Rattle.dart_printer.proofs.Lists.{Kinds, nothing, one, both, put}
+use Rattle.dart_printer.proofs.Cuts.{Cuts, cuts_of, cuts_none, cuts_then}
+use Rattle.dart_printer.proofs.Marks.{name_word}
+use Rattle.dart_printer.proofs.Keywords.{final_word, var_word, void_word, get_word, set_word, operator_word}
+use Rattle.dart_printer.proofs.SignTexts.{paren_open, paren_close}
+use Rattle.dart_printer.proofs.Back.{found, Back, GivesBack, many_back}
+use Rattle.dart_printer.proofs.Statements.{GivesStaBack}
+use Rattle.dart_printer.proofs.Parts.{value_back, param_back, params_back, ret_behind, metas_behind, operator_back, some_body_back, rest_back}
 
 -- ---- the word before a variable
 

@@ -4,9 +4,9 @@ use Rattle.dart_syntax.specs.declared.token.TokenKind.TheVariants as tk
 use Rattle.dart_syntax.specs.declared.token.Keyword.TheVariants as k
 use Rattle.dart_syntax.specs.Names.{keyword_of, is_reserved}
 use Rattle.dart_syntax.specs.Text.{word}
-use Rattle.read_back.proofs.Lists.{one}
-use Rattle.read_back.proofs.Cuts.{Closed}
-use Rattle.read_back.proofs.Marks.{keyword_word}
+use Rattle.dart_printer.proofs.Lists.{one}
+use Rattle.dart_printer.proofs.Cuts.{Closed}
+use Rattle.dart_printer.proofs.Marks.{keyword_word}
 
 pub abstract_word : Closed (word (codes "abstract")) (one (tk.Keyword k.Abstract))
 unfolding keyword_of is_reserved

@@ -17,9 +17,9 @@ use Rattle.dart_syntax.specs.Tokens as to
 use Rattle.dart_syntax.specs.Operators.{unary_of, step_of, binary_of, assignment_of}
 use Rattle.dart_syntax.specs.Derivation.{operator_of}
 use Rattle.dart_syntax.specs.Text.{word, unary_text, step_text, binary_text, assignment_text, operator_text}
-use Rattle.read_back.proofs.Lists.{Kinds, one, both}
-use Rattle.read_back.proofs.Cuts.{Cut, cut_one, cut_two, cut_then, Cuts, Closed}
-use Rattle.read_back.proofs.Marks.{sign_word, ascii_is}
+use Rattle.dart_printer.proofs.Lists.{Kinds, one, both}
+use Rattle.dart_printer.proofs.Cuts.{Cut, cut_one, cut_two, cut_then, Cuts, Closed}
+use Rattle.dart_printer.proofs.Marks.{sign_word, ascii_is}
 
 -- ---- signs
 

@@ -11,10 +11,10 @@ use Rattle.dart_syntax.specs.Syntax.{Exp}
 use Rattle.dart_syntax.specs.Text.{exp_text}
 use Rattle.dart_syntax.specs.Grammar.{Reading, Many}
 use Rattle.dart_syntax.specs.Grammar as gr
-use Rattle.read_back.specs.Spans.{bare_exp}
-use Rattle.read_back.specs.ReadsBack.{ArePossible}
-use Rattle.read_back.proofs.Lists.{Kinds, nothing, both, put}
-use Rattle.read_back.proofs.Cuts.{Cuts}
+use Rattle.dart_printer.specs.Spans.{bare_exp}
+use Rattle.dart_printer.specs.ReadsBack.{ArePossible}
+use Rattle.dart_printer.proofs.Lists.{Kinds, nothing, both, put}
+use Rattle.dart_printer.proofs.Cuts.{Cuts}
 
 abbrev pub is_else : TokenKind → Bool
 is_else (tk.Keyword k.Else) = true

@@ -5,7 +5,7 @@ use Rattle.dart_syntax.specs.declared.token.Span.{Span}
 use Rattle.dart_syntax.specs.declared.token.Token.{Token}
 use Rattle.dart_syntax.specs.declared.token.TokenKind.{TokenKind}
 use Rattle.dart_syntax.specs.Words.{Tokens, token}
-use Rattle.read_back.specs.Spans.{nowhere}
+use Rattle.dart_printer.specs.Spans.{nowhere}
 
 pub data Kinds : Type 0 where
   nothing : Kinds

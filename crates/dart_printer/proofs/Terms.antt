@@ -14,16 +14,16 @@ use Rattle.dart_syntax.specs.Operators.{named}
 use Rattle.dart_syntax.specs.Text.{word, exp_text, exps_text, more_text, pieces_text, closing, selectors_text, selector_text, units_text}
 use Rattle.dart_syntax.specs.Grammar.{Reading, Many, More, Args, Pieces, Primary, Selects, Postfix}
 use Rattle.dart_syntax.specs.Grammar as gr
-use Rattle.read_back.specs.Spans.{nowhere, bare_exps, bare_pieces, bare_selectors, bare_selector}
-use Rattle.read_back.specs.ReadsBack.{ArePossible}
-use Rattle.read_back.proofs.Lists.{Kinds, one, both, put}
-use Rattle.read_back.proofs.Cuts.{Cuts, Closed, cuts_of, cuts_none, cuts_then, cuts_left}
-use Rattle.read_back.proofs.Marks.{name_word}
-use Rattle.read_back.proofs.Keywords.{null_word, true_word, false_word, this_word, super_word}
-use Rattle.read_back.proofs.SignTexts.{paren_open, paren_close, bracket_open, bracket_close, comma, dot}
-use Rattle.read_back.proofs.Numbers.{int_word}
-use Rattle.read_back.proofs.StringTexts.{PieceCuts, string_word, pieces_close, pieces_mid, joined_cuts}
-use Rattle.read_back.proofs.Back.{Found, found, Back, ExpBack, GivesBack, exp_as, many_back}
+use Rattle.dart_printer.specs.Spans.{nowhere, bare_exps, bare_pieces, bare_selectors, bare_selector}
+use Rattle.dart_printer.specs.ReadsBack.{ArePossible}
+use Rattle.dart_printer.proofs.Lists.{Kinds, one, both, put}
+use Rattle.dart_printer.proofs.Cuts.{Cuts, Closed, cuts_of, cuts_none, cuts_then, cuts_left}
+use Rattle.dart_printer.proofs.Marks.{name_word}
+use Rattle.dart_printer.proofs.Keywords.{null_word, true_word, false_word, this_word, super_word}
+use Rattle.dart_printer.proofs.SignTexts.{paren_open, paren_close, bracket_open, bracket_close, comma, dot}
+use Rattle.dart_printer.proofs.Numbers.{int_word}
+use Rattle.dart_printer.proofs.StringTexts.{PieceCuts, string_word, pieces_close, pieces_mid, joined_cuts}
+use Rattle.dart_printer.proofs.Back.{Found, found, Back, ExpBack, GivesBack, exp_as, many_back}
 
 module _ (W : Reading Exp) (whole : GivesBack W) where
   -- ---- lists of expressions
