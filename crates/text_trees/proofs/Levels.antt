@@ -9,7 +9,7 @@ use Rattle.dart_syntax.specs.Grammar as gr
 use Rattle.dart_meaning.specs.Operators.{operator_of, compound, step_operator}
 use Rattle.dart_meaning.specs.Uses as u
 use Rattle.dart_meaning.specs.Uses.{Scope}
-use Rattle.read_back.specs.ReadsBack.{ArePossible}
+use Rattle.dart_printer.specs.ReadsBack.{ArePossible}
 use Rattle.text_trees.specs.Nodes.{links_nodes}
 use Rattle.text_trees.specs.Written.{AreWrittenLinks}
 use Rattle.text_trees.proofs.Weights.{Weight, join, prefix_weight, operator_weight, Fine}

@@ -15,8 +15,8 @@ use Rattle.dart_meaning.specs.Uses as u
 use Rattle.dart_meaning.specs.Uses.{Use, Part, parts}
 use Rattle.dart_meaning.specs.Means.{means, is_of_this}
 use Rattle.dart_meaning.specs.Sites.{Site, if_of_this, sites_of_use, text_sites, prefix_name}
-use Rattle.read_back.specs.ReadsBack.{IsPossible, ArePossible}
-use Rattle.read_back.proofs.Marks.{in_ascii, ascii_is}
+use Rattle.dart_printer.specs.ReadsBack.{IsPossible, ArePossible}
+use Rattle.dart_printer.proofs.Marks.{in_ascii, ascii_is}
 use Rattle.text_trees.specs.Written.{IsWrittenSite, Each}
 use Rattle.text_trees.proofs.Weights.{Weight, split, use_weight, weigh, weigh_parts, kind_weight, tokens}
 use Rattle.text_trees.proofs.Names.{name_low}

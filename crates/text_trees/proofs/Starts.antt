@@ -10,7 +10,7 @@ use Rattle.dart_syntax.specs.Strings as st
 use Rattle.dart_syntax.specs.Tokens.{Takes, Runs, TokenList}
 use Rattle.dart_syntax.specs.Tokens as to
 use Rattle.dart_syntax.proofs.Lengths.{run_shorter, comment_shorter, raw_shorter}
-use Rattle.read_back.proofs.Marks.{both_true}
+use Rattle.dart_printer.proofs.Marks.{both_true}
 
 -- They start at lo or behind, each behind the one before, and all before hi.
 abbrev pub Rises : ℕ → Tokens → ℕ → Type 0

@@ -11,7 +11,7 @@ use Rattle.dart_syntax.specs.Bytes.{Text}
 use Rattle.dart_syntax.specs.Syntax.{Exp}
 use Rattle.dart_meaning.specs.Uses as u
 use Rattle.dart_meaning.specs.Uses.{Use, Part}
-use Rattle.read_back.specs.ReadsBack.{ArePossible}
+use Rattle.dart_printer.specs.ReadsBack.{ArePossible}
 
 abbrev pub Weight : Type 0
 Weight = ℕ → Text → ℕ
