@@ -31,7 +31,7 @@ use Rattle.accepted_trees.proofs.bodies.Fine.{Fine, AllFine}
 use Rattle.accepted_trees.proofs.bodies.Assignables.{SoundAssignable, sound_update}
 use Rattle.accepted_trees.proofs.bodies.OpenNames.{Knows}
 use Rattle.accepted_trees.proofs.bodies.UsesNumbered as places
-use Rattle.accepted_trees.proofs.bodies.UsesNumbered.{asks_at, calls_at, gets_at, sets_at, same_count, form_count}
+use Rattle.accepted_trees.proofs.bodies.UsesNumbered.{asks_at, calls_at, gets_at, sets_at, same_count, form_count, two, three}
 
 module _ (tree : Tree) (p : Parts) (here : Option Text) (me : Option ℕ) (answers : Bool) where
   abbrev All : List Use → Type 0
@@ -106,12 +106,6 @@ module _ (tree : Tree) (p : Parts) (here : Option Text) (me : Option ℕ) (answe
         × (SoundCalls p me slots (num.all_but_last tree at here names more) × ((x : c.Exp) → Sound p me slots x → SoundAssignable tree p here me reads_too slots (num.last_of tree at here names x more)))
 
     -- ---- put together
-
-    two : {A B C D : Type 0} → A × B → C × D → (A × C) × (B × D)
-    two (a, b) (c, d) = ((a, c), (b, d))
-
-    three : {A B C D E F : Type 0} → A × B → C × D → E × F → (A × C × E) × (B × D × F)
-    three (a, b) (c, d) (e, f) = ((a, c, e), (b, d, f))
 
     called_by : (x : Name) (args : t.Exps) → ExpsCall tree at p here names args
         → BareCallCalls tree at p here (class_declares tree here x.text) (num.function_number tree x.text) (is_constructed tree x.text) (bytes_eq x.text (codes "print")) (reading x.span.start) (calling x.text (uses.count args))

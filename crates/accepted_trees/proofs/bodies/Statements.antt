@@ -20,6 +20,7 @@ use Rattle.text_trees.specs.Written.{IsWrittenFirst, IsWrittenSta, AreWrittenSta
 use Rattle.accepted_trees.proofs.bodies.Fine.{AllFine}
 use Rattle.accepted_trees.proofs.bodies.OpenNames.{Knows, knows_ready, knows_late, knows_opened}
 use Rattle.accepted_trees.proofs.bodies.UsesNumbered as places
+use Rattle.accepted_trees.proofs.bodies.UsesNumbered.{two, three}
 use Rattle.accepted_trees.proofs.bodies.Expressions as exps
 
 -- ---- what is open behind a statement
@@ -61,12 +62,6 @@ module _ (tree : Tree) (p : Parts) (here : Option Text) (me : Option ℕ) (answe
 
   abbrev GoodExp : List Text → t.Exp → Type 0
   GoodExp names e = ExpCalls tree at p here names e × Sound p me (length names) (form names e)
-
-  two : {A B C D : Type 0} → A × B → C × D → (A × C) × (B × D)
-  two (a, b) (c, d) = ((a, c), (b, d))
-
-  three : {A B C D E F : Type 0} → A × B → C × D → E × F → (A × C × E) × (B × D × F)
-  three (a, b) (c, d) (e, f) = ((a, c, e), (b, d, f))
 
   exp_of : (scope : Scope) (names : List Text) → Knows scope names → (e : t.Exp) → All (uses.exp scope e) → Rattle.text_trees.specs.Written.IsWrittenExp e → GoodExp names e
   exp_of scope names knows = exps.good tree p here me answers scope names knows

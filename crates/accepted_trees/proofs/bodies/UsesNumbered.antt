@@ -45,6 +45,14 @@ use Rattle.accepted_trees.proofs.bodies.Fine.{Fine, AllFine, FineName, FineOutsi
 use Rattle.accepted_trees.proofs.bodies.Assignables.{SoundAssignable, sound_target, sound_update}
 use Rattle.accepted_trees.proofs.bodies.OpenNames.{KnownBy}
 
+-- ---- pairs of what sites have and of soundness
+
+pub two : {A B C D : Type 0} → A × B → C × D → (A × C) × (B × D)
+two (a, b) (c, d) = ((a, c), (b, d))
+
+pub three : {A B C D E F : Type 0} → A × B → C × D → E × F → (A × C × E) × (B × D × F)
+three (a, b) (c, d) (e, f) = ((a, c, e), (b, d, f))
+
 -- ---- selectors
 
 pub asks_at : (o : Option Selector) (sel : Selector) → o ≡ Some sel → IsTrue (not (same_kind sel.kind Set)) → sound.Asks sel.count o
