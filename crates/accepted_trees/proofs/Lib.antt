@@ -1,4 +1,7 @@
-pub mod Forms
-pub mod Sums
-pub mod Nodes
+pub mod sites
+pub mod classes
+pub mod RulesKept
+pub mod members
+pub mod bodies
+pub mod sizes
 pub mod Whole

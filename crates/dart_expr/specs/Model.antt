@@ -28,6 +28,10 @@ name_by _ = refuse
 unfoldable pub name : Parser Name
 name = λ ts. name_by (kind ts) ts
 
+-- an expression of a string with the text behind it, and whether that ends the string
+abbrev pub piece_of : Exp → List ℕ → Bool → Parser (Piece Exp × Bool)
+piece_of x u is_last = (λ at. (tree.a_piece x u at, is_last)) <$> take
+
 module _ (whole : Parser Exp) where
   -- what follows the first expression of a list, up to and with the closing sign
   unfoldable pub more_from : Sign → ℕ → List Exp → Parser (List Exp)
@@ -46,10 +50,10 @@ module _ (whole : Parser Exp) where
     is_empty ← eat close
     if is_empty then pure [] else (do x ← whole; (λ ts. more_from close (length ts) (x ∷ []) ts))
 
-  -- what stands behind an expression of a string, and whether it ends the string
+  -- the same, by what the text behind the expression is
   abbrev pub piece_by : Exp → Option TokenKind → Parser (Piece Exp × Bool)
-  piece_by x (Some (tk.StrMid u)) = (λ at. (tree.a_piece x u at, false)) <$> take
-  piece_by x (Some (tk.StrClose u)) = (λ at. (tree.a_piece x u at, true)) <$> take
+  piece_by x (Some (tk.StrMid u)) = piece_of x u false
+  piece_by x (Some (tk.StrClose u)) = piece_of x u true
   piece_by x _ = refuse
 
   unfoldable pub piece : Parser (Piece Exp × Bool)

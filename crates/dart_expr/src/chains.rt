@@ -16,6 +16,7 @@ use crate::selectors::target;
 use crate::tables::{assignment_at, binary_at, may_precede, step_at, turns, unary_at};
 use dart_syntax::token::{Keyword, Sign, Span, TokenKind};
 use dart_syntax::tree::{Expr, Link, Step, Unary};
+use ds_base::let_go;
 use sqlite_items::{Boxed, Items};
 use std::alloc::Global;
 
@@ -40,7 +41,7 @@ impl<F: Fn(Global, &mut Cursor<'_>, usize, bool) -> Result<Expr, Refusal>> Gramm
     {
         let at = tokens.take();
         let x = self.postfix(tokens)?;
-        let x = Boxed::new(self.alloc, target(tokens, x)?)?;
+        let x = target(self.alloc, tokens, x)?;
         Ok(Expr::Step(true, step, at, x))
     }
 
@@ -53,7 +54,7 @@ impl<F: Fn(Global, &mut Cursor<'_>, usize, bool) -> Result<Expr, Refusal>> Gramm
         match step_at(tokens.peek()) {
             None => Ok(x),
             Some(step) => {
-                let x = Boxed::new(self.alloc, target(tokens, x)?)?;
+                let x = target(self.alloc, tokens, x)?;
                 Ok(Expr::Step(false, step, tokens.take(), x))
             }
         }
@@ -128,8 +129,9 @@ impl<F: Fn(Global, &mut Cursor<'_>, usize, bool) -> Result<Expr, Refusal>> Gramm
         ensures { Reads exp (spec.tested (exp x) at tokens.old) result tokens.new }
     {
         let is_negated = tokens.eat(Sign::Not);
+        let x = Boxed::new(self.alloc, x)?;
         let class = name(self.alloc, tokens)?;
-        Ok(Expr::Is(Boxed::new(self.alloc, x)?, is_negated, at, class))
+        Ok(Expr::Is(x, is_negated, at, class))
     }
 
     /// Behind the first operand of a level.
@@ -144,7 +146,13 @@ impl<F: Fn(Global, &mut Cursor<'_>, usize, bool) -> Result<Expr, Refusal>> Gramm
         if level == 7 && tokens.eat_keyword(Keyword::Is) {
             return self.tested(tokens, first, at);
         }
-        let links = self.links(tokens, level)?;
+        let links = match self.links(tokens, level) {
+            Ok(links) => links,
+            Err(refusal) => {
+                let_go(first);
+                return Err(refusal);
+            }
+        };
         if links.is_empty() {
             return Ok(first);
         }
@@ -170,9 +178,9 @@ impl<F: Fn(Global, &mut Cursor<'_>, usize, bool) -> Result<Expr, Refusal>> Gramm
         ensures { Reads exp (spec.branches (spec.expr self.now.depth) (spec.operand self.now.depth) (exp test) tokens.old) result tokens.new }
     {
         let test = Boxed::new(self.alloc, test)?;
-        let then = Boxed::new(self.alloc, self.whole(tokens)?)?;
+        let then = self.boxed_whole(tokens)?;
         tokens.expect(Sign::Colon)?;
-        let other = Boxed::new(self.alloc, self.whole(tokens)?)?;
+        let other = self.boxed_whole(tokens)?;
         Ok(Expr::Cond(test, then, other))
     }
 
@@ -198,9 +206,9 @@ impl<F: Fn(Global, &mut Cursor<'_>, usize, bool) -> Result<Expr, Refusal>> Gramm
         match assignment_at(tokens.peek()) {
             None => Ok(x),
             Some(op) => {
-                let x = Boxed::new(self.alloc, target(tokens, x)?)?;
+                let x = target(self.alloc, tokens, x)?;
                 let at = tokens.take();
-                Ok(Expr::Assign(x, op, at, Boxed::new(self.alloc, self.whole(tokens)?)?))
+                Ok(Expr::Assign(x, op, at, self.boxed_whole(tokens)?))
             }
         }
     }
@@ -212,7 +220,7 @@ impl<F: Fn(Global, &mut Cursor<'_>, usize, bool) -> Result<Expr, Refusal>> Gramm
     {
         let at = tokens.span();
         if tokens.eat_keyword(Keyword::Throw) {
-            Ok(Expr::Throw(at, Boxed::new(self.alloc, self.whole(tokens)?)?))
+            Ok(Expr::Throw(at, self.boxed_whole(tokens)?))
         } else {
             self.assigned(tokens)
         }

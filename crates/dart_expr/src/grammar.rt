@@ -13,7 +13,7 @@ use crate::firsts::{begins, begins_under};
 use crate::refusal::Refusal;
 use dart_syntax::token::Sign;
 use dart_syntax::tree::Expr;
-use sqlite_items::Items;
+use sqlite_items::{Boxed, Items};
 use std::alloc::Global;
 
 #[derive(Clone, Copy)]
@@ -31,6 +31,14 @@ impl<F: Fn(Global, &mut Cursor<'_>, usize, bool) -> Result<Expr, Refusal>> Gramm
         ensures { Reads exp (spec.expr self.now.depth tokens.old) result tokens.new }
     {
         (self.expr)(self.alloc, tokens, self.depth, false)
+    }
+
+    pub(crate) fn boxed_whole(&self, tokens: &mut Cursor<'_>) -> Result<Boxed<Expr>, Refusal>
+        requires { Nests self.now.depth (F.pre self.now.expr) (F.post self.now.expr) }
+        ensures { Reads exp (spec.expr self.now.depth tokens.old) result tokens.new }
+    {
+        let x = self.whole(tokens)?;
+        Ok(Boxed::new(self.alloc, x)?)
     }
 
     /// What stands under a sign, one level deeper.

@@ -14,8 +14,31 @@ use crate::names::{copied, copied_units, name};
 use crate::refusal::Refusal;
 use dart_syntax::token::{Identifier, Keyword, Sign, TokenKind, Units};
 use dart_syntax::tree::{Expr, Name, Piece};
-use sqlite_items::{Boxed, Items};
+use ds_base::let_go;
+use sqlite_items::Items;
 use std::alloc::Global;
+
+/// An expression of a string, and the text behind it, which is the next token.
+fn piece_of(
+    alloc: Global,
+    tokens: &mut Cursor<'_>,
+    value: Expr,
+    units: &Units,
+    is_last: bool,
+) -> Result<(Piece<Expr>, bool), Refusal>
+    ensures { Reads (λ r. (piece r.0, r.1)) (spec.piece_of (exp value) units.now is_last tokens.old) result tokens.new }
+{
+    match copied_units(alloc, units) {
+        Ok(then) => {
+            let span = tokens.take();
+            Ok((Piece { value, then, span }, is_last))
+        }
+        Err(_) => {
+            let_go(value);
+            Err(Refusal::NoMemory)
+        }
+    }
+}
 
 impl<F: Fn(Global, &mut Cursor<'_>, usize, bool) -> Result<Expr, Refusal>> Grammar<F> {
     #[tactic(auto, unfolding(crate::specs::Model::piece))]
@@ -23,31 +46,14 @@ impl<F: Fn(Global, &mut Cursor<'_>, usize, bool) -> Result<Expr, Refusal>> Gramm
         requires { Nests self.now.depth (F.pre self.now.expr) (F.post self.now.expr) }
         ensures { Reads (λ r. (piece r.0, r.1)) (spec.piece (spec.expr self.now.depth) tokens.old) result tokens.new }
     {
-        let x = self.whole(tokens)?;
+        let value = self.whole(tokens)?;
         match tokens.peek() {
-            Some(TokenKind::StrMid(units)) => {
-                let units = copied_units(self.alloc, units)?;
-                Ok((
-                    Piece {
-                        value: x,
-                        then: units,
-                        span: tokens.take(),
-                    },
-                    false,
-                ))
+            Some(TokenKind::StrMid(units)) => piece_of(self.alloc, tokens, value, units, false),
+            Some(TokenKind::StrClose(units)) => piece_of(self.alloc, tokens, value, units, true),
+            _ => {
+                let_go(value);
+                Err(tokens.refuse())
             }
-            Some(TokenKind::StrClose(units)) => {
-                let units = copied_units(self.alloc, units)?;
-                Ok((
-                    Piece {
-                        value: x,
-                        then: units,
-                        span: tokens.take(),
-                    },
-                    true,
-                ))
-            }
-            _ => Err(tokens.refuse()),
         }
     }
 
@@ -114,7 +120,7 @@ impl<F: Fn(Global, &mut Cursor<'_>, usize, bool) -> Result<Expr, Refusal>> Gramm
         ensures { Reads exp (spec.parenthesized (spec.expr self.now.depth) tokens.old) result tokens.new }
     {
         tokens.skip();
-        let inner = Boxed::new(self.alloc, self.whole(tokens)?)?;
+        let inner = self.boxed_whole(tokens)?;
         tokens.expect(Sign::ParenClose)?;
         Ok(Expr::Paren(inner))
     }

@@ -14,6 +14,7 @@ use crate::names::name;
 use crate::refusal::Refusal;
 use dart_syntax::token::{Sign, Span, TokenKind};
 use dart_syntax::tree::{Expr, Selector};
+use ds_base::let_go;
 use sqlite_items::{Boxed, Items};
 use std::alloc::Global;
 
@@ -39,8 +40,13 @@ impl<F: Fn(Global, &mut Cursor<'_>, usize, bool) -> Result<Expr, Refusal>> Gramm
         ensures { Reads selector (spec.index (spec.expr self.now.depth) at tokens.old) result tokens.new }
     {
         let index = self.whole(tokens)?;
-        tokens.expect(Sign::BracketClose)?;
-        Ok(Selector::Index(at, index))
+        match tokens.expect(Sign::BracketClose) {
+            Ok(_) => Ok(Selector::Index(at, index)),
+            Err(refusal) => {
+                let_go(index);
+                Err(refusal)
+            }
+        }
     }
 
     #[tactic(auto, unfolding(crate::specs::Model::selector))]
@@ -82,7 +88,13 @@ impl<F: Fn(Global, &mut Cursor<'_>, usize, bool) -> Result<Expr, Refusal>> Gramm
         ensures { Reads exp (spec.postfix (spec.expr self.now.depth) tokens.old) result tokens.new }
     {
         let first = self.primary(tokens)?;
-        let selectors = self.selectors(tokens)?;
+        let selectors = match self.selectors(tokens) {
+            Ok(selectors) => selectors,
+            Err(refusal) => {
+                let_go(first);
+                return Err(refusal);
+            }
+        };
         if selectors.is_empty() {
             return Ok(first);
         }
@@ -102,12 +114,13 @@ fn is_target(x: &Expr) -> bool
 }
 
 #[tactic(auto, unfolding(crate::specs::Model::target))]
-pub(crate) fn target(tokens: &Cursor<'_>, x: Expr) -> Result<Expr, Refusal>
+pub(crate) fn target(alloc: Global, tokens: &Cursor<'_>, x: Expr) -> Result<Boxed<Expr>, Refusal>
     ensures { Reads exp (spec.target (exp x) tokens.now) result tokens.now }
 {
     if is_target(&x) {
-        Ok(x)
+        Ok(Boxed::new(alloc, x)?)
     } else {
+        let_go(x);
         Err(tokens.refuse())
     }
 }

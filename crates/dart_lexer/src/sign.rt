@@ -5,7 +5,7 @@ ghost use Rattle.std.specs.Option.{option_copied};
 ghost use Rattle.dart_syntax.specs.Signs.{signs};
 ghost use Rattle.dart_lexer.specs.Signs as spec;
 
-use dart_syntax::{SIGNS, Sign};
+use dart_syntax::{Sign, sign_table};
 
 /// The bytes behind the text.
 fn strip<'a>(mut text: &[u8], mut bytes: &'a [u8]) -> Option<&'a [u8]>
@@ -36,9 +36,8 @@ fn sign_in<'a>(mut table: &[(&[u8], Sign)], bytes: &'a [u8]) -> Option<(Sign, &'
 }
 
 /// The longest sign at the front, and the bytes behind it.
-#[tactic(auto, unfolding(dart_syntax::specs::Signs::signs))]
 pub fn sign_at(bytes: &[u8]) -> Option<(Sign, &[u8])>
     ensures { option_map (λ p. (p.0, p.1.now)) result ≡ spec.sign_in signs bytes.now }
 {
-    sign_in(&SIGNS, bytes)
+    sign_in(sign_table(), bytes)
 }

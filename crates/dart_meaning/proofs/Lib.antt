@@ -1,0 +1,14 @@
+pub mod Closed
+pub mod ClosedTree
+pub mod Steady
+pub mod Counted
+pub mod Entries
+pub mod Simulation
+pub mod Slots
+pub mod Blocks
+pub mod CallsAgree
+pub mod ExpsAgree
+pub mod StasAgree
+pub mod BodiesAgree
+pub mod BuiltInAgree
+pub mod ExampleAgrees

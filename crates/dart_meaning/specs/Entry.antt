@@ -1,5 +1,5 @@
 -- What an entry of a tree does with a number of turns.
-use Rattle.std.specs.Prelude.{ℕ, zero, suc, ◌-◌, Bool, ◌&&◌, ◌||◌, nat_eq, List, [], length, map, reverse, Option, Some, None}
+use Rattle.std.specs.Prelude.{ℕ, zero, suc, ◌-◌, Bool, ◌&&◌, ◌||◌, nat_eq, List, [], length, map, reverse, Option, Some, None, is_some}
 use Rattle.std.specs.Str.{bytes_eq}
 use Rattle.std.specs.Prelude.{codes}
 use Rattle.dart_syntax.specs.Syntax.{Tree, Function, Local}
@@ -75,5 +75,10 @@ turns_spent tree site_of f turns = turns - left (entry_run tree site_of greatest
 abbrev pub is_entry_point : Function → Bool
 is_entry_point f = nat_eq (length f.params) 0 && (f.is_entry || bytes_eq f.name.text (codes "main"))
 
+-- the first entry point of a name
 abbrev pub entry_named : Tree → List ℕ → Option Function
 entry_named tree name = first_some (map (λ (f : Function). if_so (is_entry_point f && bytes_eq f.name.text name) f) (functions tree))
+
+-- the tree has an entry point of this name
+abbrev pub has_entry : Tree → List ℕ → Bool
+has_entry tree name = is_some (entry_named tree name)

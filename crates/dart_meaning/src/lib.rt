@@ -1,6 +1,7 @@
 //! What programs do.
 #![tactic(auto)]
 
+pub mod laws;
 pub mod operators;
 mod seen;
 

@@ -15,6 +15,7 @@ use dart_expr::cursor::Cursor;
 use dart_expr::grammar::expr;
 use dart_syntax::token::Sign;
 use dart_syntax::tree::{Body, Stmt};
+use ds_base::let_go;
 use sqlite_items::Items;
 use std::alloc::Global;
 
@@ -62,8 +63,13 @@ pub(crate) fn body(alloc: Global, tokens: &mut Cursor<'_>) -> Result<Body, Refus
 {
     if tokens.eat(Sign::Arrow) {
         let x = expr(alloc, tokens, LEVELS, false)?;
-        tokens.expect(Sign::Semicolon)?;
-        return Ok(Body::Arrow(x));
+        return match tokens.expect(Sign::Semicolon) {
+            Ok(_) => Ok(Body::Arrow(x)),
+            Err(refusal) => {
+                let_go(x);
+                Err(refusal)
+            }
+        };
     }
     Ok(Body::Block(block(alloc, tokens)?))
 }

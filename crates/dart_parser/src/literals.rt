@@ -10,6 +10,7 @@ use dart_expr::cursor::Cursor;
 use dart_expr::names::copied_units;
 use dart_syntax::token::{Keyword, Sign, TokenKind};
 use dart_syntax::tree::{Expr, Unary};
+use ds_base::let_go;
 use sqlite_items::Boxed;
 use std::alloc::Global;
 
@@ -49,8 +50,13 @@ pub(crate) fn given(alloc: Global, tokens: &mut Cursor<'_>) -> Result<Expr, Refu
     ensures { Reads exp (spec.given tokens.old) result tokens.new }
 {
     let x = literal(alloc, tokens)?;
-    tokens.expect(Sign::Semicolon)?;
-    Ok(x)
+    match tokens.expect(Sign::Semicolon) {
+        Ok(_) => Ok(x),
+        Err(refusal) => {
+            let_go(x);
+            Err(refusal)
+        }
+    }
 }
 
 #[tactic(auto, unfolding(crate::specs::Members::value))]

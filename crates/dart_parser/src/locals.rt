@@ -12,6 +12,7 @@ use dart_expr::cursor::Cursor;
 use dart_expr::names::name;
 use dart_syntax::token::{Keyword, Sign, TokenKind};
 use dart_syntax::tree::{Expr, First, Local, Stmt};
+use ds_base::let_go;
 use sqlite_items::Items;
 use std::alloc::Global;
 
@@ -21,8 +22,13 @@ impl<F: Fn(Global, &mut Cursor<'_>, usize) -> Result<Stmt, Refusal>> Statements<
         ensures { Reads exp (spec.ended (spec.stmt self.now.depth) (expr self.now.depth) tokens.old) result tokens.new }
     {
         let x = self.whole(tokens)?;
-        tokens.expect(Sign::Semicolon)?;
-        Ok(x)
+        match tokens.expect(Sign::Semicolon) {
+            Ok(_) => Ok(x),
+            Err(refusal) => {
+                let_go(x);
+                Err(refusal)
+            }
+        }
     }
 
     #[tactic(auto, unfolding(crate::specs::Statements::valued))]

@@ -10,6 +10,7 @@ use dart_expr::cursor::Cursor;
 use dart_expr::names::name;
 use dart_syntax::token::{Keyword, Sign, TokenKind};
 use dart_syntax::tree::Param;
+use ds_base::let_go;
 use sqlite_items::Items;
 use std::alloc::Global;
 
@@ -70,6 +71,7 @@ fn listed(tokens: &mut Cursor<'_>, x: Param) -> Result<Option<Param>, Refusal>
     if tokens.sees(Sign::ParenClose) {
         return Ok(Some(x));
     }
+    let_go(x);
     Err(tokens.refuse())
 }
 

@@ -13,6 +13,7 @@ use dart_expr::cursor::Cursor;
 use dart_expr::grammar::expr;
 use dart_syntax::token::{Keyword, Sign, TokenKind};
 use dart_syntax::tree::{Expr, First, Stmt};
+use ds_base::let_go;
 use sqlite_items::{Boxed, Items};
 use std::alloc::Global;
 
@@ -30,6 +31,14 @@ impl<F: Fn(Global, &mut Cursor<'_>, usize) -> Result<Stmt, Refusal>> Statements<
         ensures { Reads sta (spec.stmt self.now.depth tokens.old) result tokens.new }
     {
         (self.stmt)(self.alloc, tokens, self.depth)
+    }
+
+    fn boxed_inner(&self, tokens: &mut Cursor<'_>) -> Result<Boxed<Stmt>, Refusal>
+        requires { NestsStmt self.now.depth (F.pre self.now.stmt) (F.post self.now.stmt) }
+        ensures { Reads sta (spec.stmt self.now.depth tokens.old) result tokens.new }
+    {
+        let x = self.inner(tokens)?;
+        Ok(Boxed::new(self.alloc, x)?)
     }
 
     pub(crate) fn whole(&self, tokens: &mut Cursor<'_>) -> Result<Expr, Refusal>
@@ -83,8 +92,13 @@ impl<F: Fn(Global, &mut Cursor<'_>, usize) -> Result<Stmt, Refusal>> Statements<
         tokens.skip();
         tokens.expect(Sign::ParenOpen)?;
         let test = self.whole(tokens)?;
-        tokens.expect(Sign::ParenClose)?;
-        Ok(test)
+        match tokens.expect(Sign::ParenClose) {
+            Ok(_) => Ok(test),
+            Err(refusal) => {
+                let_go(test);
+                Err(refusal)
+            }
+        }
     }
 
     #[tactic(auto, using(crate::proofs::View::sta_when, crate::proofs::View::sta_when_else), unfolding(crate::specs::Statements::branches))]
@@ -93,12 +107,23 @@ impl<F: Fn(Global, &mut Cursor<'_>, usize) -> Result<Stmt, Refusal>> Statements<
         ensures { Reads sta (spec.branches (spec.stmt self.now.depth) (expr self.now.depth) tokens.old) result tokens.new }
     {
         let test = self.condition(tokens)?;
-        let then = Boxed::new(self.alloc, self.inner(tokens)?)?;
+        let then = match self.boxed_inner(tokens) {
+            Ok(then) => then,
+            Err(refusal) => {
+                let_go(test);
+                return Err(refusal);
+            }
+        };
         if !tokens.eat_keyword(Keyword::Else) {
             return Ok(Stmt::If(test, then, None));
         }
-        let other = Boxed::new(self.alloc, self.inner(tokens)?)?;
-        Ok(Stmt::If(test, then, Some(other)))
+        match self.boxed_inner(tokens) {
+            Ok(other) => Ok(Stmt::If(test, then, Some(other))),
+            Err(refusal) => {
+                let_go(test);
+                Err(refusal)
+            }
+        }
     }
 
     #[tactic(auto, unfolding(crate::specs::Statements::repeated))]
@@ -107,7 +132,13 @@ impl<F: Fn(Global, &mut Cursor<'_>, usize) -> Result<Stmt, Refusal>> Statements<
         ensures { Reads sta (spec.repeated (spec.stmt self.now.depth) (expr self.now.depth) tokens.old) result tokens.new }
     {
         let test = self.condition(tokens)?;
-        Ok(Stmt::While(test, Boxed::new(self.alloc, self.inner(tokens)?)?))
+        match self.boxed_inner(tokens) {
+            Ok(body) => Ok(Stmt::While(test, body)),
+            Err(refusal) => {
+                let_go(test);
+                Err(refusal)
+            }
+        }
     }
 
     #[tactic(auto, unfolding(crate::specs::Statements::do_repeated))]
@@ -116,13 +147,18 @@ impl<F: Fn(Global, &mut Cursor<'_>, usize) -> Result<Stmt, Refusal>> Statements<
         ensures { Reads sta (spec.do_repeated (spec.stmt self.now.depth) (expr self.now.depth) tokens.old) result tokens.new }
     {
         tokens.skip();
-        let body = Boxed::new(self.alloc, self.inner(tokens)?)?;
+        let body = self.boxed_inner(tokens)?;
         if !tokens.sees_keyword(Keyword::While) {
             return Err(tokens.refuse());
         }
         let test = self.condition(tokens)?;
-        tokens.expect(Sign::Semicolon)?;
-        Ok(Stmt::Do(body, test))
+        match tokens.expect(Sign::Semicolon) {
+            Ok(_) => Ok(Stmt::Do(body, test)),
+            Err(refusal) => {
+                let_go(test);
+                Err(refusal)
+            }
+        }
     }
 
     #[tactic(auto, unfolding(crate::specs::Statements::counted))]
@@ -133,9 +169,21 @@ impl<F: Fn(Global, &mut Cursor<'_>, usize) -> Result<Stmt, Refusal>> Statements<
         tokens.skip();
         tokens.expect(Sign::ParenOpen)?;
         let first = self.first(tokens)?;
-        let test = self.valued(tokens)?;
-        let last = self.last(tokens)?;
-        self.counted_by(tokens, first, test, last)
+        let test = match self.valued(tokens) {
+            Ok(test) => test,
+            Err(refusal) => {
+                let_go(first);
+                return Err(refusal);
+            }
+        };
+        match self.last(tokens) {
+            Ok(last) => self.counted_by(tokens, first, test, last),
+            Err(refusal) => {
+                let_go(first);
+                let_go(test);
+                Err(refusal)
+            }
+        }
     }
 
     #[tactic(auto, unfolding(crate::specs::Statements::counted_by))]
@@ -149,8 +197,14 @@ impl<F: Fn(Global, &mut Cursor<'_>, usize) -> Result<Stmt, Refusal>> Statements<
         requires { NestsStmt self.now.depth (F.pre self.now.stmt) (F.post self.now.stmt) }
         ensures { Reads sta (spec.counted_by (spec.stmt self.now.depth) (expr self.now.depth) (first_part first) (option_map exp test) (map exp last) tokens.old) result tokens.new }
     {
-        let body = Boxed::new(self.alloc, self.inner(tokens)?)?;
-        Ok(Stmt::For(first, test, last, body))
+        match self.boxed_inner(tokens) {
+            Ok(body) => Ok(Stmt::For(first, test, last, body)),
+            Err(refusal) => {
+                let_go(first);
+                let_go(test);
+                Err(refusal)
+            }
+        }
     }
 
     #[tactic(auto, unfolding(crate::specs::Statements::broken))]

@@ -5,15 +5,15 @@ ghost use Rattle.dart_syntax.specs.declared.token.Token.{Token};
 ghost use Rattle.dart_syntax.specs.Derivation.{same_text, Derives};
 ghost use Rattle.dart_syntax.specs.View as view;
 ghost use Rattle.dart_syntax.specs.Text as text;
-ghost use Rattle.read_back.specs.ReadsBack.{ArePossible, ReadsBack};
+ghost use Rattle.dart_printer.specs.ReadsBack.{ArePossible, ReadsBack};
 
 use crate::expr::{print_expr, print_exprs};
+use crate::read_back::canonical_text_reads_back;
 use crate::stmt::{print_block, print_local};
 use crate::words::{put, put_operator};
 use dart_syntax::same::same_text;
 use dart_syntax::tree::{Body, ClassDecl, Function, Member, Name, Param, Passed, Stmt, Top, Tree};
 use ds_base::NoMemory;
-use read_back::canonical_text_reads_back;
 use sqlite_items::Items;
 use std::alloc::{AllocError, Global};
 

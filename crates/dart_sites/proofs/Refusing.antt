@@ -7,7 +7,7 @@ use Rattle.static_rules.specs.declared.rule.Rule.{Rule}
 use Rattle.static_rules.specs.Accepted.{failing}
 use Rattle.resolver.specs.declared.error.NameError.{NameError}
 use Rattle.resolver.specs.declared.error.NameError.TheVariants as error
-use Rattle.resolver.specs.Entries.{has_entry}
+use Rattle.dart_meaning.specs.Entry.{has_entry}
 use Rattle.resolver.specs.Refusals.{IsRefusal, broken}
 
 pub breaks_it : (tree : Tree) (e : NameError) (x : Rule × Span) → IsRefusal tree e → broken e ≡ Some x → failing tree ≡ Some x

@@ -8,7 +8,7 @@ use Rattle.static_rules.specs.declared.rule.Rule.TheVariants as rule
 use Rattle.static_rules.specs.declared.rule.Limit.{Limit}
 use Rattle.static_rules.specs.declared.rule.Limit.TheVariants as limit
 use Rattle.static_rules.specs.Accepted.{most, Counts}
-use Rattle.resolver.specs.Entries.{has_entry}
+use Rattle.dart_meaning.specs.Entry.{has_entry}
 use Rattle.first_run.specs.Places.{place_text}
 
 abbrev pub rule_name : Rule → List ℕ

@@ -9,7 +9,7 @@ ghost use Rattle.dart_sites.specs.Source.{IsTreeOf};
 ghost use Rattle.static_rules.specs.Accepted.{IsAccepted, counts, failing};
 ghost use Rattle.program.specs.Program.{entry_named, parts_of};
 ghost use Rattle.resolver.specs.Counted.{counts_of_parts};
-ghost use Rattle.resolver.specs.Entries.{has_entry};
+ghost use Rattle.dart_meaning.specs.Entry.{has_entry};
 ghost use Rattle.resolver.specs.Refusals.{IsRefusal, broken, finding};
 ghost use Rattle.dart_sites.specs.Top.{OutcomeSays};
 

@@ -1,16 +1,62 @@
 -- Signs, by their texts.
-use Rattle.std.specs.Prelude.{◌≡◌, ◌≤◌, ◌⊎◌, List, [], ◌∷◌, ◌++◌, length, map}
+use Rattle.std.specs.Prelude.{◌≡◌, ◌≤◌, ◌⊎◌, List, [], ◌∷◌, ◌++◌, length, codes}
 use Rattle.dart_syntax.specs.declared.token.Sign.{Sign}
-use Rattle.dart_syntax.specs.declared.table.TheConstants.{SIGNS}
+use Rattle.dart_syntax.specs.declared.token.Sign.TheVariants as s
 use Rattle.dart_syntax.specs.Bytes.{Text}
 
 -- texts of signs, with what each is
 abbrev pub Table : Type 0
 Table = List (Text × Sign)
 
--- those of the language
+-- those of the language, but for braces, which may also end an interpolation
 unfoldable pub signs : Table
-signs = map (λ k. (k.0.now, k.1)) SIGNS
+signs =
+    (codes ">>>=", s.ShiftUnsignedAssign) ∷
+    (codes ">>>", s.ShiftUnsigned) ∷
+    (codes "<<=", s.ShiftLeftAssign) ∷
+    (codes ">>=", s.ShiftRightAssign) ∷
+    (codes "~/=", s.DivideAssign) ∷
+    (codes "=>", s.Arrow) ∷
+    (codes "==", s.Equal) ∷
+    (codes "!=", s.NotEqual) ∷
+    (codes "<=", s.LessEqual) ∷
+    (codes ">=", s.GreaterEqual) ∷
+    (codes "<<", s.ShiftLeft) ∷
+    (codes ">>", s.ShiftRight) ∷
+    (codes "~/", s.Divide) ∷
+    (codes "&&", s.And) ∷
+    (codes "||", s.Or) ∷
+    (codes "++", s.Increment) ∷
+    (codes "--", s.Decrement) ∷
+    (codes "+=", s.PlusAssign) ∷
+    (codes "-=", s.MinusAssign) ∷
+    (codes "*=", s.StarAssign) ∷
+    (codes "%=", s.PercentAssign) ∷
+    (codes "&=", s.AmpersandAssign) ∷
+    (codes "|=", s.BarAssign) ∷
+    (codes "^=", s.CaretAssign) ∷
+    (codes "(", s.ParenOpen) ∷
+    (codes ")", s.ParenClose) ∷
+    (codes "[", s.BracketOpen) ∷
+    (codes "]", s.BracketClose) ∷
+    (codes ",", s.Comma) ∷
+    (codes ";", s.Semicolon) ∷
+    (codes ":", s.Colon) ∷
+    (codes ".", s.Dot) ∷
+    (codes "?", s.Question) ∷
+    (codes "@", s.At) ∷
+    (codes "=", s.Assign) ∷
+    (codes "!", s.Not) ∷
+    (codes "<", s.Less) ∷
+    (codes ">", s.Greater) ∷
+    (codes "+", s.Plus) ∷
+    (codes "-", s.Minus) ∷
+    (codes "*", s.Star) ∷
+    (codes "%", s.Percent) ∷
+    (codes "&", s.Ampersand) ∷
+    (codes "|", s.Bar) ∷
+    (codes "^", s.Caret) ∷
+    (codes "~", s.Tilde) ∷ []
 
 -- the table has this text for the sign
 abbrev pub Spells : Table → Text → Sign → Type 0

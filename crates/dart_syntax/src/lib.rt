@@ -1,4 +1,4 @@
-//! Tokens and trees of the language: types and tables.
+//! Tokens and trees of the language: types, and the tables of words.
 #![tactic(auto)]
 
 pub mod byte_kind;
@@ -10,6 +10,6 @@ pub mod tree;
 
 pub use byte_kind::ByteKind;
 pub use open::Open;
-pub use table::{KEYWORDS, RESERVED, SIGNS};
+pub use table::{keyword_table, reserved_words, sign_table};
 pub use token::{Identifier, Keyword, Sign, Span, Token, TokenKind, Units};
 pub use tree::{ClassDecl, Expr, Function, Member, Name, Param, Stmt, Top, Tree};

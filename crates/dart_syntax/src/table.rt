@@ -1,9 +1,12 @@
 //! The tables of signs, keywords and reserved words.
 
+ghost use Rattle.std.specs.Prelude.{◌≡◌, map};
+ghost use Rattle.dart_syntax.specs.Names as names;
+ghost use Rattle.dart_syntax.specs.Signs as language;
+
 use crate::token::{Keyword, Sign};
 
-/// The longest first. Braces stand in no table, since they may close an interpolation.
-pub const SIGNS: [(&[u8], Sign); 46] = [
+const SIGNS: [(&[u8], Sign); 46] = [
     (b">>>=", Sign::ShiftUnsignedAssign),
     (b">>>", Sign::ShiftUnsigned),
     (b"<<=", Sign::ShiftLeftAssign),
@@ -52,7 +55,7 @@ pub const SIGNS: [(&[u8], Sign); 46] = [
     (b"~", Sign::Tilde),
 ];
 
-pub const KEYWORDS: [(&[u8], Keyword); 26] = [
+const KEYWORDS: [(&[u8], Keyword); 26] = [
     (b"abstract", Keyword::Abstract),
     (b"break", Keyword::Break),
     (b"class", Keyword::Class),
@@ -81,19 +84,29 @@ pub const KEYWORDS: [(&[u8], Keyword); 26] = [
     (b"while", Keyword::While),
 ];
 
-/// Words that no program of the profile has.
-pub const RESERVED: [(&[u8], ()); 13] = [
-    (b"assert", ()),
-    (b"case", ()),
-    (b"catch", ()),
-    (b"const", ()),
-    (b"default", ()),
-    (b"enum", ()),
-    (b"finally", ()),
-    (b"in", ()),
-    (b"new", ()),
-    (b"rethrow", ()),
-    (b"switch", ()),
-    (b"try", ()),
-    (b"with", ()),
+const RESERVED: [&[u8]; 13] = [
+    b"assert", b"case", b"catch", b"const", b"default", b"enum", b"finally", b"in", b"new",
+    b"rethrow", b"switch", b"try", b"with",
 ];
+
+/// The signs with their texts, the longest first. Braces are not among them, since they may close an interpolation.
+#[tactic(auto, unfolding(crate::specs::Signs::signs))]
+pub fn sign_table() -> &'static [(&'static [u8], Sign)]
+    ensures { map (λ k. (k.0.now, k.1)) result.now ≡ language.signs }
+{
+    &SIGNS
+}
+
+/// The keywords with their texts.
+pub fn keyword_table() -> &'static [(&'static [u8], Keyword)]
+    ensures { map (λ k. (k.0.now, k.1)) result.now ≡ names.keywords }
+{
+    &KEYWORDS
+}
+
+/// Words of Dart that no program of the profile has.
+pub fn reserved_words() -> &'static [&'static [u8]]
+    ensures { map (λ w. w.now) result.now ≡ names.reserved_words }
+{
+    &RESERVED
+}

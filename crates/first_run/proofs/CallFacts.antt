@@ -3,9 +3,10 @@ use Rattle.std.proofs.Common.{◌≡◌, ◌≢◌, ℕ, ◌==◌, List, [], ◌
 use Rattle.std.proofs.lemmas.Bool.Decides.{nat_tests}
 use Rattle.std.specs.Prelude.{slice_get, option_and_then, option_to_list}
 use Rattle.program.specs.declared.body.Expression.{Expression}
+use Rattle.program.specs.declared.body.SiteCall.{SiteCall}
 use Rattle.program.specs.declared.numbered.Function.{Function}
 use Rattle.program.specs.declared.numbered.Numbered.{Numbered}
-use Rattle.program.specs.Bodies.{exp, exps, sta}
+use Rattle.program.specs.Bodies.{exp, exps, calls, sta}
 use Rattle.program.specs.Parts.{Parts}
 use Rattle.std.specs.List.{position_from}
 use Rattle.program.specs.Program.{entry_named, is_entry_named}
@@ -13,22 +14,22 @@ use Rattle.small_program.specs.Numbering.{main_of, statements_from}
 use Rattle.small_program.proofs.Views.{statement_is}
 use Rattle.first_form.specs.declared.form.PrintStmt.{PrintStmt}
 use Rattle.first_form.specs.declared.form.Form.{Form}
-use Rattle.first_run.specs.Calls.{no_exps, sent, argument, call_in, calls_in, function_calls, calls_of}
+use Rattle.first_run.specs.Calls.{no_exps, alone, site_call, site_alone, call_in, calls_in, function_calls, calls_of}
 use Rattle.first_run.specs.Numbering.{small_print, small_of, body_from, IsProgramOf}
 
 pub exps_none : (args : List Expression) → (length args == 0) ≡ no_exps (exps (map exp args))
 exps_none [] = refl
 exps_none (x ∷ more) = grind (arith, nat_tests)
 
-pub argument_alone : (args : List Expression) (d : Expression) → length args ≡ 1 → argument (exps (map exp args)) ≡ sent (exp (get_or args 0 d))
-argument_alone [] d h = absurd (omega arith)
-argument_alone (x ∷ []) d h = refl
-argument_alone (x ∷ y ∷ more) d h = absurd (omega arith)
+pub alone_one : (ks : List (SiteCall Expression)) (d : SiteCall Expression) → length ks ≡ 1 → alone (calls (map site_call ks)) ≡ site_alone (get_or ks 0 d)
+alone_one [] d h = absurd (omega arith)
+alone_one (x ∷ []) d h = refl
+alone_one (x ∷ y ∷ more) d h = absurd (omega arith)
 
-pub argument_none : (args : List Expression) → length args ≢ 1 → argument (exps (map exp args)) ≡ None
-argument_none [] h = refl
-argument_none (x ∷ []) h = absurd (h refl)
-argument_none (x ∷ y ∷ more) h = refl
+pub alone_none : (ks : List (SiteCall Expression)) → length ks ≢ 1 → alone (calls (map site_call ks)) ≡ None
+alone_none [] h = refl
+alone_none (x ∷ []) h = absurd (h refl)
+alone_none (x ∷ y ∷ more) h = refl
 
 statements_print : (source : List ℕ) (j : ℕ) (prints : List PrintStmt) → calls_in (map sta (statements_from j (map (small_print source) prints))) ≡ body_from j prints
 statements_print source j [] = refl

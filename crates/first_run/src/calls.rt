@@ -1,11 +1,11 @@
 // What the statements of `main` print, read off the numbered program.
 ghost use Rattle.std.specs.Prelude.{◌≡◌, IfOk, map, option_map, codes};
-ghost use Rattle.program.specs.Bodies.{exp, exps, sta};
-ghost use Rattle.first_run.specs.Calls.{no_exps, made, sent, argument, printed, call_in, calls_in, body_calls, calls_of};
+ghost use Rattle.program.specs.Bodies.{calls, exp, exps, sta};
+ghost use Rattle.first_run.specs.Calls.{no_exps, made, site_call, site_alone, alone, call_at, sent, printed, call_in, calls_in, body_calls, calls_of};
 
 use crate::running::PrintCall;
 use ds_base::NoMemory;
-use program::{Body, ClassId, Expression, Numbered, Statement};
+use program::{Body, ClassId, Expression, Numbered, SiteCall, SiteId, Statement};
 use sqlite_items::Items;
 use std::alloc::Global;
 
@@ -21,7 +21,7 @@ fn made(e: &Expression) -> Option<ClassId>
     ensures { option_map (λ c. c.0) result ≡ made (exp e.now) }
 {
     match e {
-        Expression::Make(class, args) => {
+        Expression::New(class, args) => {
             if no_args(args.as_slice()) {
                 Some(*class)
             } else {
@@ -32,19 +32,53 @@ fn made(e: &Expression) -> Option<ClassId>
         | Expression::This
         | Expression::Local(_)
         | Expression::Global(_)
-        | Expression::Str(_, _)
-        | Expression::Function(_, _)
+        | Expression::Interpolation(_, _)
+        | Expression::CallFunction(_, _)
         | Expression::Print(_)
-        | Expression::Above(_, _)
+        | Expression::Super(_, _)
         | Expression::List(_)
-        | Expression::Send(_, _, _)
+        | Expression::Postfix(_, _)
         | Expression::Chain(_, _)
-        | Expression::Deny(_)
+        | Expression::Not(_)
         | Expression::Is(_, _, _)
-        | Expression::Choice(_, _, _)
-        | Expression::Assign(_, _, _)
-        | Expression::Step(_, _, _)
+        | Expression::Conditional(_, _, _)
+        | Expression::Assign(_, _)
+        | Expression::CompoundAssign(_, _, _)
+        | Expression::Increment(_, _, _)
         | Expression::Throw(_) => None,
+    }
+}
+
+/// The site of a call without arguments.
+fn site_alone(call: &SiteCall<Expression>) -> Option<SiteId>
+    ensures { option_map (λ s. s.0) result ≡ site_alone call.now }
+{
+    if no_args(call.arguments.as_slice()) {
+        Some(call.site)
+    } else {
+        None
+    }
+}
+
+/// The site of one call without arguments.
+#[tactic(auto, using(crate::proofs::CallFacts::alone_one, crate::proofs::CallFacts::alone_none))]
+fn alone(all: &[SiteCall<Expression>]) -> Option<SiteId>
+    ensures { option_map (λ s. s.0) result ≡ alone (calls (map site_call all.now)) }
+{
+    if all.len() == 1 {
+        site_alone(&all[0])
+    } else {
+        None
+    }
+}
+
+/// A call at a site, on a new object.
+fn call_at(site: Option<SiteId>, class: Option<ClassId>) -> Option<PrintCall>
+    ensures { result ≡ call_at (option_map (λ s. s.0) site) (option_map (λ c. c.0) class) }
+{
+    match (site, class) {
+        (Some(site), Some(class)) => Some(PrintCall { class, site }),
+        (Some(_), None) | (None, Some(_)) | (None, None) => None,
     }
 }
 
@@ -53,43 +87,27 @@ fn sent(e: &Expression) -> Option<PrintCall>
     ensures { result ≡ sent (exp e.now) }
 {
     match e {
-        Expression::Send(site, receiver, args) => {
-            if !no_args(args.as_slice()) {
-                return None;
-            }
-            match made(receiver.get()) {
-                Some(class) => Some(PrintCall { class, site: *site }),
-                None => None,
-            }
+        Expression::Postfix(receiver, all) => {
+            call_at(alone(all.as_slice()), made(receiver.get()))
         }
         Expression::Constant(_)
         | Expression::This
         | Expression::Local(_)
         | Expression::Global(_)
-        | Expression::Str(_, _)
-        | Expression::Function(_, _)
+        | Expression::Interpolation(_, _)
+        | Expression::CallFunction(_, _)
         | Expression::Print(_)
-        | Expression::Make(_, _)
-        | Expression::Above(_, _)
+        | Expression::New(_, _)
+        | Expression::Super(_, _)
         | Expression::List(_)
         | Expression::Chain(_, _)
-        | Expression::Deny(_)
+        | Expression::Not(_)
         | Expression::Is(_, _, _)
-        | Expression::Choice(_, _, _)
-        | Expression::Assign(_, _, _)
-        | Expression::Step(_, _, _)
+        | Expression::Conditional(_, _, _)
+        | Expression::Assign(_, _)
+        | Expression::CompoundAssign(_, _, _)
+        | Expression::Increment(_, _, _)
         | Expression::Throw(_) => None,
-    }
-}
-
-#[tactic(auto, using(crate::proofs::CallFacts::argument_alone, crate::proofs::CallFacts::argument_none))]
-fn argument(args: &[Expression]) -> Option<PrintCall>
-    ensures { result ≡ argument (exps (map exp args.now)) }
-{
-    if args.len() == 1 {
-        sent(&args[0])
-    } else {
-        None
     }
 }
 
@@ -98,23 +116,24 @@ fn printed(e: &Expression) -> Option<PrintCall>
     ensures { result ≡ printed (exp e.now) }
 {
     match e {
-        Expression::Print(args) => argument(args.as_slice()),
+        Expression::Print(e) => sent(e.get()),
         Expression::Constant(_)
         | Expression::This
         | Expression::Local(_)
         | Expression::Global(_)
-        | Expression::Str(_, _)
-        | Expression::Function(_, _)
-        | Expression::Make(_, _)
-        | Expression::Above(_, _)
+        | Expression::Interpolation(_, _)
+        | Expression::CallFunction(_, _)
+        | Expression::New(_, _)
+        | Expression::Super(_, _)
         | Expression::List(_)
-        | Expression::Send(_, _, _)
+        | Expression::Postfix(_, _)
         | Expression::Chain(_, _)
-        | Expression::Deny(_)
+        | Expression::Not(_)
         | Expression::Is(_, _, _)
-        | Expression::Choice(_, _, _)
-        | Expression::Assign(_, _, _)
-        | Expression::Step(_, _, _)
+        | Expression::Conditional(_, _, _)
+        | Expression::Assign(_, _)
+        | Expression::CompoundAssign(_, _, _)
+        | Expression::Increment(_, _, _)
         | Expression::Throw(_) => None,
     }
 }
@@ -126,7 +145,7 @@ fn call_in(s: &Statement) -> Option<PrintCall>
     match s {
         Statement::Run(e) => printed(e),
         Statement::Block(_)
-        | Statement::Declares(_)
+        | Statement::Declare(_)
         | Statement::Empty
         | Statement::If(_, _, _)
         | Statement::While(_, _)

@@ -8,7 +8,7 @@ use Rattle.program.specs.Whole.{IsSound}
 use Rattle.dart_values.specs.Values.{Text}
 use Rattle.dart_meaning.specs.Classes.{built_in_names, class_names, classes, functions}
 use Rattle.dart_meaning.specs.Entry.{globals_of}
-use Rattle.dart_meaning.specs.Numbered.{literal}
+use Rattle.dart_meaning.specs.Literals.{literal}
 use Rattle.dart_meaning.specs.Uses as u
 use Rattle.name_uses.specs.Looked.{looked}
 use Rattle.name_uses.proofs.Looked.{looked_parts}
@@ -17,13 +17,13 @@ use Rattle.static_rules.specs.Accepted.{IsAccepted, counts}
 use Rattle.dart_meaning.specs.Forms.{class_form, method_form, function_form}
 use Rattle.dart_meaning.specs.NumberedForm.{IsNumberedOf, numbered_class, numbered_function, numbered_selectors, numbered_site, ordered_sites}
 use Rattle.text_trees.specs.Written.{IsWritten}
-use Rattle.class_proofs.proofs.Lists.{In}
-use Rattle.class_proofs.proofs.Kept.{KeepsClasses, named_none}
-use Rattle.class_proofs.proofs.Accepted.{accepted_keeps, keeps_rules}
-use Rattle.class_proofs.proofs.Above.{classes_count}
-use Rattle.class_proofs.proofs.Numbers.{numbers_count}
-use Rattle.class_proofs.proofs.members.Counts.{methods_count, functions_count}
-use Rattle.site_tables.proofs.Tables.{as_many_all, selectors_length, sites_length}
+use Rattle.accepted_trees.proofs.classes.Lists.{In}
+use Rattle.accepted_trees.proofs.classes.ClassRules.{KeepsClasses, named_none}
+use Rattle.accepted_trees.proofs.RulesKept.{accepted_keeps, keeps_rules}
+use Rattle.accepted_trees.proofs.classes.SameHierarchy.{classes_count}
+use Rattle.accepted_trees.proofs.classes.Numbers.{numbers_count}
+use Rattle.accepted_trees.proofs.members.Counts.{methods_count, functions_count}
+use Rattle.accepted_trees.proofs.sites.Tables.{as_many_all, selectors_length, sites_length}
 use Rattle.accepted_trees.proofs.Whole.{sound_program}
 use Rattle.tree_lists.specs.Methods.{methods_of}
 use Rattle.tree_lists.proofs.BuiltIn.{Undeclared, built_in_are}

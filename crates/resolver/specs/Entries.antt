@@ -1,19 +1,18 @@
--- The entry points of a tree.
-use Rattle.std.specs.Prelude.{ℕ, Bool, false, ◌&&◌, ◌||◌, nat_eq, List, length, codes}
-use Rattle.std.specs.List.{list_any}
-use Rattle.std.specs.Str.{bytes_eq}
-use Rattle.dart_syntax.specs.Syntax as t
-use Rattle.dart_syntax.specs.Syntax.{Tree, Function, Top}
+-- The entry points of a tree and of its numbered program.
+use Rattle.std.specs.Prelude.{◌≡◌, ℕ, List}
+use Rattle.std.specs.Option.{option_map, option_and_then}
+use Rattle.dart_syntax.specs.Syntax.{Tree}
+use Rattle.program.specs.declared.numbered.Numbered.{Numbered}
+use Rattle.program.specs.Program as program
+use Rattle.program.specs.Program.{parts_of}
+use Rattle.dart_meaning.specs.Entry as entry
+use Rattle.dart_meaning.specs.Entry.{entry_meaning}
+use Rattle.dart_meaning.specs.Numbered.{entry_meaning_n}
+use Rattle.dart_meaning.specs.Sites.{site_of}
 
--- a function without parameters that is named `main` or marked as an entry point
-abbrev pub is_entry_named : List ℕ → Function → Bool
-is_entry_named name f = nat_eq (length f.params) 0 && (f.is_entry || bytes_eq f.name.text (codes "main")) && bytes_eq f.name.text name
-
--- the same of a declaration
-abbrev pub is_entry_top : List ℕ → Top → Bool
-is_entry_top name (t.a_function f) = is_entry_named name f
-is_entry_top name _ = false
-
--- the tree declares an entry point of this name
-abbrev pub has_entry : Tree → List ℕ → Bool
-has_entry tree name = list_any (is_entry_top name) tree.tops
+-- What the program's entry point of a name does, and whether there is one, is what the tree's does, with every number of turns.
+abbrev pub EntriesMean : Tree → Numbered → Type 0
+EntriesMean tree p =
+    (name : List ℕ) (turns : ℕ)
+    → option_and_then (λ e. entry_meaning_n (parts_of p) e turns) (program.entry_named p name)
+    ≡ option_map (λ f. entry_meaning tree (site_of tree) f turns) (entry.entry_named tree name)

@@ -5,8 +5,9 @@ ghost use Rattle.dart_syntax.specs.View.{unit};
 ghost use Rattle.program.specs.BuiltIn.{built_in_members};
 ghost use Rattle.program.specs.Program.{parts_of, entry_named};
 ghost use Rattle.dart_meaning.specs.Classes as c;
-ghost use Rattle.dart_meaning.specs.Entry.{entry_meaning, globals_of};
-ghost use Rattle.dart_meaning.specs.Numbered.{entry_meaning_n, literal};
+ghost use Rattle.dart_meaning.specs.Entry.{entry_meaning, globals_of, has_entry};
+ghost use Rattle.dart_meaning.specs.Literals.{literal};
+ghost use Rattle.dart_meaning.specs.Numbered.{entry_meaning_n};
 ghost use Rattle.dart_meaning.specs.Sites.{site_of, text_sites};
 ghost use Rattle.dart_meaning.specs.Forms.{class_form, method_form, function_form};
 ghost use Rattle.dart_meaning.specs.NumberedForm.{in_order, numbered_class, numbered_function, IsNumberedOf};
@@ -17,7 +18,7 @@ ghost use Rattle.tree_lists.specs.Methods.{methods_of};
 ghost use Rattle.tree_numbers.specs.Asked.{known_of};
 ghost use Rattle.tree_numbers.specs.ClassFacts.{knows};
 ghost use Rattle.resolver.specs.Counted.{counts_of_parts};
-ghost use Rattle.resolver.specs.Entries.{has_entry};
+ghost use Rattle.resolver.specs.Entries.{EntriesMean};
 ghost use Rattle.resolver.specs.Refusals.{IsRefusal};
 ghost use Rattle.resolver.specs.Texts.{IsTextOf};
 
@@ -141,6 +142,7 @@ pub fn resolve(alloc: Global, tree: &Tree, text: &[u8]) -> Result<Numbered, Name
     ensures program { IfOk result (λ n. IsNumberedOf text.now (unit tree.now) (parts_of n)) }
     ensures counts { IfOk result (λ n. counts_of_parts (parts_of n) ≡ counts (unit tree.now)) }
     ensures entries { IfOk result (λ n. (name : List ℕ) → is_some (entry_named n name) ≡ has_entry (unit tree.now) name) }
+    ensures means { IfOk result (λ n. EntriesMean (unit tree.now) n) }
     ensures same { IfOk result (λ n. (f turns : ℕ) → entry_meaning_n (parts_of n) f turns ≡ option_map (λ k. entry_meaning (unit tree.now) (site_of (unit tree.now)) k turns) (slice_get (c.functions (unit tree.now)) f)) }
 {
     accept(alloc, tree)?;

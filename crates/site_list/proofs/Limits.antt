@@ -7,9 +7,9 @@ use Rattle.dart_meaning.specs.Sites as s
 use Rattle.dart_meaning.specs.NumberedForm.{in_order}
 use Rattle.static_rules.specs.Accepted.{counts, exceeded}
 use Rattle.text_trees.specs.Written.{IsWritten}
-use Rattle.site_tables.proofs.TextSites.{order_moves}
-use Rattle.site_tables.proofs.Tables.{counts_within, as_many_all}
-use Rattle.site_tables.proofs.Arguments.{few_arguments}
+use Rattle.accepted_trees.proofs.sites.TextSites.{order_moves}
+use Rattle.accepted_trees.proofs.sites.Tables.{counts_within, as_many_all}
+use Rattle.accepted_trees.proofs.sites.FewArguments.{few_arguments}
 use Rattle.site_list.specs.declared.site.SourceSite.{SourceSite}
 use Rattle.site_list.specs.SourceSites.{site_of_source, listed}
 use Rattle.site_list.specs.Rows.{AreLimited}

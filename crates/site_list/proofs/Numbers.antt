@@ -10,9 +10,9 @@ use Rattle.dart_values.specs.Values.{Text}
 use Rattle.dart_meaning.specs.Program.{to_string}
 use Rattle.dart_meaning.specs.Sites.{Site, same_selector, selectors, text_sites, prelude_sites}
 use Rattle.dart_meaning.specs.NumberedForm.{in_order, ordered_sites, numbered_selectors, numbered_site, shown_place, also_used, first_uses}
-use Rattle.site_tables.proofs.Selectors.{is_in, in_used, selector_self, position_there, used_append, used_twice, used_place, used_longer, used_kept}
-use Rattle.site_tables.proofs.TextSites.{all_from, all_append, all_map, all_in_order, get_map}
-use Rattle.site_tables.proofs.Tables.{any_from, all_used, as_many_selectors}
+use Rattle.accepted_trees.proofs.sites.Selectors.{is_in, in_used, selector_self, position_there, used_append, used_twice, used_place, used_longer, used_kept}
+use Rattle.accepted_trees.proofs.sites.TextSites.{all_from, all_append, all_map, all_in_order, get_map}
+use Rattle.accepted_trees.proofs.sites.Tables.{any_from, all_used, as_many_selectors}
 use Rattle.site_list.specs.declared.site.SourceSelector.{SourceSelector}
 use Rattle.site_list.specs.declared.site.SourceSite.{SourceSite}
 use Rattle.site_list.specs.SourceSites.{selector_of, site_of_source, listed, asked}

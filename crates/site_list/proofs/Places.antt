@@ -13,8 +13,8 @@ use denote.Param.Members.{Mut}
 use Rattle.dart_syntax.specs.Syntax.{Tree}
 use Rattle.dart_meaning.specs.Sites.{Site, key, text_sites, site_of}
 use Rattle.dart_meaning.specs.NumberedForm.{in_order}
-use Rattle.site_tables.proofs.Order.{Least, Ordered, ordered_from, ordered_line, line_is, map_line}
-use Rattle.site_tables.proofs.TextSites.{InText, by_place, order_is, order_moves, number_is}
+use Rattle.accepted_trees.proofs.sites.Order.{Least, Ordered, ordered_from, ordered_line, line_is, map_line}
+use Rattle.accepted_trees.proofs.sites.TextSites.{InText, by_place, order_is, order_moves, number_is}
 use Rattle.site_list.specs.declared.site.SitePlace.{SitePlace}
 use Rattle.site_list.specs.declared.site.SitePlace.TheVariants as v
 use Rattle.site_list.specs.declared.site.SourceSite.{SourceSite}

@@ -9,8 +9,8 @@ use Rattle.std.specs.Str.{IsAscii, bytes_eq}
 use Rattle.program.specs.declared.numbered.Selector.{Selector}
 use Rattle.program.specs.declared.numbered.SelectorKind.TheVariants.{Call, Set}
 use Rattle.program.specs.declared.numbered.Site.{Site}
-use Rattle.program.specs.declared.numbered.Place.{Place}
-use Rattle.program.specs.declared.numbered.Place.TheVariants as place
+use Rattle.program.specs.declared.numbered.SitePlace.{SitePlace}
+use Rattle.program.specs.declared.numbered.SitePlace.TheVariants as place
 use Rattle.program.specs.Bodies as c
 use Rattle.program.specs.Lookup.{same_kind}
 use Rattle.program.specs.Parts.{Parts, selector_at}
@@ -175,7 +175,7 @@ module _ (p : Parts) (prints : List SmallPrint) (sites_are : p.sites ≡ sites_w
       ∙ get_behind (map (print_site p.selectors) prints) _ k
 
   -- the selector of a site whose place in the list is known
-  selector_is : (s : ℕ) (at : Place) (name : List ℕ) → slice_get p.sites s ≡ Some (site_of p.selectors at name) → selector_at p s ≡ slice_get p.selectors (number_in p.selectors name)
+  selector_is : (s : ℕ) (at : SitePlace) (name : List ℕ) → slice_get p.sites s ≡ Some (site_of p.selectors at name) → selector_at p s ≡ slice_get p.selectors (number_in p.selectors name)
   selector_is s at name e = ap (option_and_then (λ (site : Site). slice_get p.selectors site.selector.0)) e
 
   -- a call at the site of a statement
@@ -189,7 +189,7 @@ module _ (p : Parts) (prints : List SmallPrint) (sites_are : p.sites ≡ sites_w
   to_string_there : Has p.selectors (codes "toString")
   to_string_there = has_last p.selectors prints has
 
-  calls_to_string : (s : ℕ) (at : Place) → slice_get p.sites s ≡ Some (site_of p.selectors at (codes "toString")) → Is Call (codes "toString") 0 (selector_at p s)
+  calls_to_string : (s : ℕ) (at : SitePlace) → slice_get p.sites s ≡ Some (site_of p.selectors at (codes "toString")) → Is Call (codes "toString") 0 (selector_at p s)
   calls_to_string s at e = subst (Is Call (codes "toString") 0) (sym (selector_is s at (codes "toString") e)) (calls_named p.selectors (codes "toString") calls to_string_there)
 
   last_site : (k : ℕ) (site : Site) → slice_get (site_of p.selectors place.Print (codes "toString") ∷ site_of p.selectors place.List (codes "toString") ∷ []) k ≡ Some site → IsSite p (length prints + k) (Some site)
@@ -230,7 +230,7 @@ module _ (p : Parts) (prints : List SmallPrint) (sites_are : p.sites ≡ sites_w
       let low : q.class < n = h.0.class in
       let user : nat_eq (7 + q.class) 0 || nat_le 7 (7 + q.class) ≡ true = grind (arith, nat_tests) in
       let rest = sound_from (suc j) more (λ i r e. let f : suc j + i ≡ j + suc i = omega arith in subst (λ k. slice_get prints k ≡ Some r) (sym f) (here (suc i) r e)) makes n fits h.1 in
-      subst (λ s. SoundStas p None true 0 false (c.next s (c.stas (map c.sta (statements_from (suc j) more))))) (sym (statement_is j q)) ((refl, ((asks_print j q first, (user, makes (7 + q.class) (omega arith), tt), tt), tt)), rest)
+      subst (λ s. SoundStas p None true 0 false (c.next s (c.stas (map c.sta (statements_from (suc j) more))))) (sym (statement_is j q)) (((user, makes (7 + q.class) (omega arith), tt), (asks_print j q first, tt, tt)), rest)
 
   pub main_sound : ((q : ℕ) → q < length p.classes → MakeAccepts 0 (slice_get p.classes q)) → (n : ℕ) → 7 + n ≤ length p.classes → AllByRecursion (IsSmallPrint n) prints
       → SoundStas p None true 0 false (c.stas (map c.sta (statements_from 0 prints)))

@@ -12,8 +12,8 @@ use Rattle.program.specs.declared.numbered.Class.{Class}
 use Rattle.program.specs.declared.numbered.Function.{Function}
 use Rattle.program.specs.declared.numbered.Method.{Method}
 use Rattle.program.specs.declared.numbered.MethodBody.TheVariants as does
-use Rattle.program.specs.declared.numbered.Place.{Place}
-use Rattle.program.specs.declared.numbered.Place.TheVariants as place
+use Rattle.program.specs.declared.numbered.SitePlace.{SitePlace}
+use Rattle.program.specs.declared.numbered.SitePlace.TheVariants as place
 use Rattle.program.specs.declared.numbered.Selector.{Selector}
 use Rattle.program.specs.declared.numbered.SelectorKind.TheVariants.{Call}
 use Rattle.program.specs.declared.numbered.Site.{Site}
@@ -84,7 +84,7 @@ number_in all name = unwrap_or (position (has_name name) all) 0
 
 -- ---- sites: one for each `print`, and then those of the prelude
 
-abbrev pub site_of : List Selector → Place → List ℕ → Site
+abbrev pub site_of : List Selector → SitePlace → List ℕ → Site
 site_of all at name = record { selector = record { 0 = number_in all name }; place = at }
 
 abbrev pub print_site : List Selector → SmallPrint → Site
@@ -100,11 +100,11 @@ sites_of s = sites_with (selectors_of s) s.prints
 
 -- `C().method()` at a site
 abbrev pub call_of : ℕ → SmallPrint → Expression
-call_of site p = expression.Send (record { 0 = site }) (expression.Make (record { 0 = 7 + p.class }) []) []
+call_of site p = expression.Postfix (expression.New (record { 0 = 7 + p.class }) []) (record { site = record { 0 = site }; arguments = [] } ∷ [])
 
 -- `print(C().method());`
 abbrev pub statement_of : ℕ → SmallPrint → Statement
-statement_of site p = statement.Run (expression.Print (call_of site p ∷ []))
+statement_of site p = statement.Run (expression.Print (call_of site p))
 
 -- the statements from number j on, each with the site of its number
 abbrev pub statements_from : ℕ → List SmallPrint → List Statement

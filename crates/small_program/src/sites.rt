@@ -5,7 +5,8 @@ ghost use Rattle.small_program.specs.Numbering.{noted, noted_all, names_called, 
 
 use crate::small::SmallPrint;
 use program::{
-    ClassId, Expression, Place, Selector, SelectorId, SelectorKind, Site, SiteId, Statement,
+    ClassId, Expression, Selector, SelectorId, SelectorKind, Site, SiteCall, SiteId, SitePlace,
+    Statement,
 };
 use sqlite_items::{Boxed, Items};
 use std::alloc::{AllocError, Global};
@@ -55,7 +56,7 @@ pub fn selectors(alloc: Global, prints: &[SmallPrint]) -> Result<Items<Selector>
 }
 
 /// A site that calls the selector of this name.
-fn site(all: &[Selector], place: Place, name: &[u8]) -> Site
+fn site(all: &[Selector], place: SitePlace, name: &[u8]) -> Site
     requires { length all.now ≤ 65536 }
     ensures { result ≡ site_of all.now place name.now }
 {
@@ -77,14 +78,14 @@ pub fn sites(
 {
     let mut sites = Items::new(alloc);
     for print in prints {
-        let place = Place::At {
+        let place = SitePlace::At {
             line: print.line,
             column: print.column,
         };
         sites.push(site(all, place, print.method.as_slice()))?;
     }
-    sites.push(site(all, Place::Print, b"toString"))?;
-    sites.push(site(all, Place::List, b"toString"))?;
+    sites.push(site(all, SitePlace::Print, b"toString"))?;
+    sites.push(site(all, SitePlace::List, b"toString"))?;
     Ok(sites)
 }
 
@@ -94,10 +95,13 @@ fn statement(alloc: Global, number: u32, print: &SmallPrint) -> Result<Statement
     ensures { IfOk result (λ s. s ≡ statement_of number print.now) }
 {
     let class = ClassId(FIRST + print.class);
-    let made = Boxed::new(alloc, Expression::Make(class, Items::new(alloc)))?;
-    let call = Expression::Send(SiteId(number), made, Items::new(alloc));
-    let mut printed = Items::new(alloc);
-    printed.push(call)?;
+    let mut calls = Items::new(alloc);
+    calls.push(SiteCall {
+        site: SiteId(number),
+        arguments: Items::new(alloc),
+    })?;
+    let made = Boxed::new(alloc, Expression::New(class, Items::new(alloc)))?;
+    let printed = Boxed::new(alloc, Expression::Postfix(made, calls))?;
     Ok(Statement::Run(Expression::Print(printed)))
 }
 

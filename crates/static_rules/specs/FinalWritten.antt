@@ -4,12 +4,12 @@ use Rattle.std.specs.List.{list_any}
 use Rattle.std.specs.Str.{bytes_eq}
 use Rattle.dart_syntax.specs.Syntax.{ClassDecl, Local, Tree}
 use Rattle.dart_values.specs.Values.{Text}
+use Rattle.dart_meaning.specs.Classes.{declared_fields}
 use Rattle.dart_meaning.specs.Uses.{Use, writes, sets_field, Part}
 use Rattle.dart_meaning.specs.Means.{Means, a_local, a_top, means}
 use Rattle.static_rules.specs.Places.{Fault, at_if}
 use Rattle.static_rules.specs.InParts.{in_parts}
 use Rattle.static_rules.specs.Statics.{Static, a_variable, static_named}
-use Rattle.static_rules.specs.UndefinedName.{declared_fields}
 
 abbrev pub is_fixed_static : Static → Bool
 is_fixed_static (a_variable v) = v.is_final

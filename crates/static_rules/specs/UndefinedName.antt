@@ -1,6 +1,6 @@
 -- **UndefinedName.** A bare name that means nothing; a local used in its block before the end of its declaration; a name after `is` that is no class; `this`, `super` or a member without a receiver, where no object is `this`; `this.x` for a field that the class does not declare; a member of `super` that no class above has with a body.
 -- The place is the name, or the word `this` or `super` where that word may not stand.
-use Rattle.std.specs.Prelude.{Bool, true, false, not, List, [], filter_map, is_some, Option, None, Some, if◌then◌else◌}
+use Rattle.std.specs.Prelude.{Bool, true, false, not, is_some, Option, None, Some, if◌then◌else◌}
 use Rattle.std.specs.List.{list_any}
 use Rattle.std.specs.Str.{bytes_eq}
 use Rattle.dart_syntax.specs.declared.token.Span.{Span}
@@ -8,7 +8,7 @@ use Rattle.dart_syntax.specs.declared.tree.Name.{Name}
 use Rattle.dart_syntax.specs.Syntax.{ClassDecl, Local, Tree}
 use Rattle.program.specs.declared.numbered.SelectorKind.TheVariants.{Call, Get, Set}
 use Rattle.dart_values.specs.Values.{Text}
-use Rattle.dart_meaning.specs.Classes.{field_of}
+use Rattle.dart_meaning.specs.Classes.{declared_fields}
 use Rattle.dart_meaning.specs.Uses.{Use, reads, writes, calls, this_at, super_reads, super_writes, super_calls, names_class, sets_field, Part}
 use Rattle.dart_meaning.specs.Means.{Means, too_early, a_member, nothing, means, has_this, is_class, super_member}
 use Rattle.static_rules.specs.Places.{Fault, at_if}
@@ -24,11 +24,7 @@ is_undefined this _ = false
 abbrev pub of_super : Bool → Span → Name → Bool → Fault
 of_super this at n there = if this then at_if (not there) n.span else Some at
 
--- the fields that a class itself declares
-abbrev pub declared_fields : Option ClassDecl → List Local
-declared_fields None = []
-declared_fields (Some c) = filter_map field_of c.members
-
+-- the class itself declares a field of this name
 abbrev pub has_field : Option ClassDecl → Text → Bool
 has_field class name = list_any (λ (f : Local). bytes_eq f.name.text name) (declared_fields class)
 

@@ -11,7 +11,7 @@ use Rattle.dart_syntax.specs.Grammar.{Reading, Many, More, Args, Pieces, Primary
 use Rattle.dart_syntax.specs.Grammar as gr
 use Rattle.dart_meaning.specs.Uses as u
 use Rattle.dart_meaning.specs.Uses.{Use, Scope}
-use Rattle.read_back.specs.ReadsBack.{ArePossible}
+use Rattle.dart_printer.specs.ReadsBack.{ArePossible}
 use Rattle.text_trees.specs.Nodes.{exp_nodes, exps_nodes, pieces_nodes, selectors_nodes, selector_nodes}
 use Rattle.text_trees.specs.Written.{IsWrittenExp, AreWrittenExps, AreWrittenPieces, AreWrittenSelectors, IsWrittenSelector, IsTarget, EndsAsTarget, IsLastOfTarget}
 use Rattle.text_trees.proofs.Weights.{Weight, weigh, tokens, join, changes_weight, Fine}

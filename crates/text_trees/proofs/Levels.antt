@@ -6,12 +6,13 @@ use Rattle.dart_syntax.specs.Words.{Tokens}
 use Rattle.dart_syntax.specs.Operators.{named}
 use Rattle.dart_syntax.specs.Grammar.{Reading, Many, Unary, Under, Links, Level, Chain, Cond, Expression, ExprWithin, UnderWithin}
 use Rattle.dart_syntax.specs.Grammar as gr
+use Rattle.dart_meaning.specs.Operators.{operator_of, compound, step_operator}
 use Rattle.dart_meaning.specs.Uses as u
 use Rattle.dart_meaning.specs.Uses.{Scope}
-use Rattle.read_back.specs.ReadsBack.{ArePossible}
+use Rattle.dart_printer.specs.ReadsBack.{ArePossible}
 use Rattle.text_trees.specs.Nodes.{links_nodes}
 use Rattle.text_trees.specs.Written.{AreWrittenLinks}
-use Rattle.text_trees.proofs.Weights.{Weight, join, prefix_weight, link_weight, operator_weight, Fine}
+use Rattle.text_trees.proofs.Weights.{Weight, join, prefix_weight, operator_weight, Fine}
 use Rattle.text_trees.proofs.Expressions.{w, FineExp, AreFine, postfix_fine}
 
 module _ (p : Weight) where
@@ -28,7 +29,7 @@ module _ (p : Weight) where
     unary_fine (gr.Unary.before {op = op} {at = at} {x = x} is d target) ok =
         let a = postfix_fine p W whole d ok.1 in
         record {
-          weight = λ scope. omega (arith, a.target true scope, join p (u.target scope true x) (u.operates (u.step_operator op) at ∷ []));
+          weight = λ scope. omega (arith, a.target true scope, join p (u.target scope true x) (u.operates (step_operator op) at ∷ []));
           size = omega (arith, a.plain.size);
           is = a.is target;
           behind = a.plain.behind;
@@ -36,7 +37,7 @@ module _ (p : Weight) where
     unary_fine (gr.Unary.after {op = op} {at = at} {x = x} is d target) ok =
         let a = postfix_fine p W whole d ok in
         record {
-          weight = λ scope. omega (arith, a.target true scope, join p (u.target scope true x) (u.operates (u.step_operator op) at ∷ []));
+          weight = λ scope. omega (arith, a.target true scope, join p (u.target scope true x) (u.operates (step_operator op) at ∷ []));
           size = omega (arith, a.plain.size);
           is = a.is target;
           behind = a.plain.behind.1;
@@ -57,7 +58,7 @@ module _ (p : Weight) where
         let b = many_links ds a.behind in
         record {
           weight = λ scope.
-              omega (arith, a.weight scope, b.weight scope, link_weight p op at, join p (u.link_use op at) (u.exp scope x ++ u.links scope (links xs)), join p (u.exp scope x) (u.links scope (links xs)));
+              omega (arith, a.weight scope, b.weight scope, operator_weight p (operator_of op) at, join p (u.operator_use (operator_of op) at) (u.exp scope x ++ u.links scope (links xs)), join p (u.exp scope x) (u.links scope (links xs)));
           size = omega (arith, a.size, b.size);
           is = (a.is, b.is);
           behind = b.behind;
@@ -107,7 +108,7 @@ module _ (p : Weight) where
     expression_fine (gr.Expression.assign {op = op} {at = at} {x = x} {y = y} d target is e) ok =
         let a = postfix_fine p W whole d ok in
         let b = whole.fine e a.plain.behind.1 in
-        let change = u.operator_of op in
+        let change = compound op in
         record {
           weight = λ scope.
               omega (arith, a.target (is_some change) scope, b.weight scope, operator_weight p change at, join p (u.target scope (is_some change) x) (u.operator_use change at ++ u.exp scope y), join p (u.operator_use change at) (u.exp scope y));

@@ -10,7 +10,7 @@ use Rattle.dart_syntax.specs.Grammar as gr
 use Rattle.dart_syntax.specs.Derivation.{Marked, MemberText, ClassText, Declared, TopText}
 use Rattle.dart_syntax.specs.Derivation as de
 use Rattle.dart_meaning.specs.Uses.{nothing_seen, with_params, member_parts, class_parts, constructor_parts, is_constructor, top_parts}
-use Rattle.read_back.specs.ReadsBack.{ArePossible}
+use Rattle.dart_printer.specs.ReadsBack.{ArePossible}
 use Rattle.text_trees.specs.Nodes.{all_nodes, member_nodes, top_nodes}
 use Rattle.text_trees.specs.Written.{IsWrittenMember, IsWrittenTop, Each}
 use Rattle.text_trees.proofs.Weights.{Weight, split, weigh_parts, join_parts, Fine}

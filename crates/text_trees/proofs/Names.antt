@@ -5,7 +5,7 @@ use Rattle.std.proofs.lemmas.Bool.Decides.{nat_tests}
 use Rattle.dart_syntax.specs.declared.byte_kind.ByteKind.TheVariants as byte
 use Rattle.dart_syntax.specs.Bytes.{Text, is_in}
 use Rattle.dart_syntax.specs.Names.{keyword_of, is_reserved, is_name}
-use Rattle.read_back.proofs.Marks.{in_ascii, both_true, ascii_is}
+use Rattle.dart_printer.proofs.Marks.{in_ascii, both_true, ascii_is}
 use Rattle.text_trees.specs.Written.{IsWrittenName}
 
 start_low : (b : ℕ) → is_in byte.Start b ≡ true → nat_lt b 128 ≡ true

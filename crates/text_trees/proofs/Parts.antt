@@ -11,7 +11,7 @@ use Rattle.dart_syntax.specs.Grammar as gr
 use Rattle.dart_syntax.specs.Derivation.{Literal, Value, Listed, ParamText, Params, Ret, Meta, OperatorText, Parent, CommaName, Interfaces, Block, BodyText, SomeBody, SomeBlock, Rest}
 use Rattle.dart_syntax.specs.Derivation as de
 use Rattle.dart_meaning.specs.Uses.{Scope, nothing_seen, with_params, with_passed, body_uses, block_uses, some_block_uses, field_uses, member_part, constructor_parts}
-use Rattle.read_back.specs.ReadsBack.{ArePossible}
+use Rattle.dart_printer.specs.ReadsBack.{ArePossible}
 use Rattle.text_trees.specs.Nodes.{body_nodes, some_body_nodes, some_block_nodes, passed_nodes, stas_nodes}
 use Rattle.text_trees.specs.Written.{IsWrittenExp, IsWrittenValue, IsWrittenParam, IsPlainParam, AreWrittenParams, ArePlainParams, Each, IsWrittenBody, MayBeWrittenBody, MayBeWrittenBlock, MayBeWrittenPassed, AreWrittenStas}
 use Rattle.text_trees.proofs.Weights.{Weight, split, weigh_parts, tokens, join, Fine}

@@ -5,19 +5,18 @@ use Rattle.dart_syntax.specs.declared.token.TokenKind.{TokenKind}
 use Rattle.dart_syntax.specs.declared.token.TokenKind.TheVariants as tk
 use Rattle.dart_syntax.specs.declared.tree.Unary.{Unary}
 use Rattle.dart_syntax.specs.declared.tree.Unary.TheVariants as unary
-use Rattle.dart_syntax.specs.declared.tree.Binary.{Binary}
-use Rattle.dart_syntax.specs.declared.tree.Binary.TheVariants as binary
 use Rattle.dart_syntax.specs.Words.{Tokens}
 use Rattle.dart_syntax.specs.Bytes.{Text}
 use Rattle.dart_syntax.specs.Syntax.{Tree}
+use Rattle.program.specs.declared.body.BinaryOperator.{BinaryOperator}
+use Rattle.program.specs.declared.body.BinaryOperator.TheVariants as by
 use Rattle.program.specs.Sound.{binary_name}
-use Rattle.dart_meaning.specs.Operators.{operator_of}
 use Rattle.dart_meaning.specs.Uses as u
 use Rattle.dart_meaning.specs.Uses.{Use, Part, parts}
 use Rattle.dart_meaning.specs.Means.{means, is_of_this}
 use Rattle.dart_meaning.specs.Sites.{Site, if_of_this, sites_of_use, text_sites, prefix_name}
-use Rattle.read_back.specs.ReadsBack.{IsPossible, ArePossible}
-use Rattle.read_back.proofs.Marks.{in_ascii, ascii_is}
+use Rattle.dart_printer.specs.ReadsBack.{IsPossible, ArePossible}
+use Rattle.dart_printer.proofs.Marks.{in_ascii, ascii_is}
 use Rattle.text_trees.specs.Written.{IsWrittenSite, Each}
 use Rattle.text_trees.proofs.Weights.{Weight, split, use_weight, weigh, weigh_parts, kind_weight, tokens}
 use Rattle.text_trees.proofs.Names.{name_low}
@@ -58,8 +57,8 @@ if_written : (b : Bool) (x : Site) → IsWrittenSite x → Each IsWrittenSite (i
 if_written true x h = (h, tt)
 if_written false x h = tt
 
-binary_low : (op : Binary) → in_ascii (binary_name (operator_of op)) ≡ true
-binary_low binary.And = refl
+binary_low : (op : BinaryOperator) → in_ascii (binary_name op) ≡ true
+binary_low by.Equal = refl
 binary_low _ = refl
 
 prefix_low : (op : Unary) → in_ascii (prefix_name op) ≡ true
@@ -75,7 +74,7 @@ use_written tree part (u.member_writes n) h = (record { stands = tt; ascii = asc
 use_written tree part (u.member_calls n k) h = (record { stands = tt; ascii = ascii_is n.text (low 0 n.text h) }, tt)
 use_written tree part (u.index_reads at) h = (record { stands = tt; ascii = ascii_is (codes "[]") refl }, tt)
 use_written tree part (u.index_writes at) h = (record { stands = tt; ascii = ascii_is (codes "[]=") refl }, tt)
-use_written tree part (u.operates op at) h = (record { stands = tt; ascii = ascii_is (binary_name (operator_of op)) (binary_low op) }, tt)
+use_written tree part (u.operates op at) h = (record { stands = tt; ascii = ascii_is (binary_name op) (binary_low op) }, tt)
 use_written tree part (u.prefixes op at) h = (record { stands = tt; ascii = ascii_is (prefix_name op) (prefix_low op) }, tt)
 use_written tree part (u.shows at) h = (record { stands = tt; ascii = ascii_is (codes "toString") refl }, tt)
 use_written tree part _ h = tt

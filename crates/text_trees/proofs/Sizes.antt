@@ -1,7 +1,6 @@
 -- No numbered form of a part of a tree has more nodes than the part.
-use Rattle.std.proofs.Common.{ℕ, zero, suc, ◌+◌, ◌≤◌, ◌≡◌, Bool, true, List, length, map, replicate, Option, Some, None, is_some, refl, ap, codes, arith, length-append}
+use Rattle.std.proofs.Common.{ℕ, suc, ◌+◌, ◌≤◌, true, List, Option, Some, None, codes, arith}
 use Rattle.std.specs.Str.{bytes_eq}
-use Rattle.std.proofs.lemmas.List.{length-map}
 use Rattle.dart_syntax.specs.declared.token.Span.{Span}
 use Rattle.dart_syntax.specs.declared.tree.Name.{Name}
 use Rattle.dart_syntax.specs.declared.tree.Unary.{Unary}
@@ -11,35 +10,59 @@ use Rattle.dart_syntax.specs.Syntax as t
 use Rattle.dart_syntax.specs.Syntax.{Tree, Param}
 use Rattle.program.specs.declared.literal.Literal.{Literal}
 use Rattle.program.specs.declared.literal.Literal.TheVariants as l
-use Rattle.program.specs.declared.body.Body.{Body}
-use Rattle.program.specs.declared.body.Body.TheVariants as body
-use Rattle.program.specs.declared.numbered.Constructor.{Constructor}
-use Rattle.program.specs.declared.numbered.Function.{Function}
+use Rattle.program.specs.declared.body.BinaryOperator.{BinaryOperator}
 use Rattle.program.specs.Bodies as c
-use Rattle.program.specs.Parts.{Parts}
-use Rattle.program.specs.Sizes.{exp_size, exps_size, pieces_size, links_size, spot_size, first_size, sta_size, stas_size, body_size, function_size, constructor_size}
-use Rattle.dart_values.specs.Values.{Value, null}
+use Rattle.program.specs.Sizes.{exp_size, exps_size, pieces_size, calls_size, links_size, target_size, update_size, first_size, sta_size, stas_size}
 use Rattle.dart_meaning.specs.Place.{Place}
-use Rattle.dart_meaning.specs.Classes as classes
-use Rattle.dart_meaning.specs.Classes.{class_declares, is_constructed, literal_or_null}
+use Rattle.dart_meaning.specs.Classes.{class_declares, is_constructed}
+use Rattle.dart_meaning.specs.Literals.{negated}
 use Rattle.dart_meaning.specs.Operators.{compound}
-use Rattle.dart_meaning.specs.Meaning.{Scope, of_body, of_this, of_unit}
-use Rattle.dart_meaning.specs.Numbered.{literal}
+use Rattle.dart_meaning.specs.Meaning.{Owner, of_body, of_this, of_unit}
 use Rattle.dart_meaning.specs.Numbering as num
-use Rattle.dart_meaning.specs.Agree.{IsBody, AreParams, IsFunction, IsConstructor}
-use Rattle.text_trees.specs.Nodes.{exp_nodes, exps_nodes, pieces_nodes, links_nodes, selectors_nodes, selector_nodes, value_nodes, first_nodes, sta_nodes, stas_nodes, body_nodes, function_nodes}
+use Rattle.dart_meaning.specs.Numbering.{Assignable}
+use Rattle.text_trees.specs.Nodes.{exp_nodes, exps_nodes, pieces_nodes, links_nodes, selectors_nodes, selector_nodes, value_nodes, first_nodes, sta_nodes, stas_nodes}
 use Rattle.text_trees.proofs.Weights.{split}
 
+-- the expressions of what is assigned to
+abbrev assignable_size : Assignable → ℕ
+assignable_size (num.a_local k) = 0
+assignable_size (num.a_global k) = 0
+assignable_size (num.a_super name) = 0
+assignable_size (num.a_member e span) = exp_size e
+assignable_size (num.an_element e i span) = exp_size e + exp_size i
+
+printed_size : (args : c.Exps) → exp_size (num.printed args) ≤ suc (exps_size args)
+printed_size c.no_more = omega arith
+printed_size (c.also e more) = omega arith
+
 module _ (tree : Tree) (site_of : Place → ℕ) (here : Option Text) where
-  bare_size : (names : List Text) (what : Scope) (x : Name) → exp_size (num.bare tree site_of here names what x) ≤ 2
+  bare_size : (names : List Text) (what : Owner) (x : Name) → exp_size (num.bare tree site_of here names what x) ≤ 2
   bare_size names of_body x = omega arith
   bare_size names of_unit x = omega arith
   bare_size names of_this x = omega arith
 
-  bare_spot_size : (names : List Text) (reads : Bool) (what : Scope) (x : Name) → spot_size (num.bare_spot tree site_of here names reads what x) ≤ 2
-  bare_spot_size names reads of_body x = omega arith
-  bare_spot_size names reads of_unit x = omega arith
-  bare_spot_size names reads of_this x = omega arith
+  bare_assignable_size : (names : List Text) (what : Owner) (x : Name) → assignable_size (num.bare_assignable tree site_of here names what x) ≤ 2
+  bare_assignable_size names of_body x = omega arith
+  bare_assignable_size names of_unit x = omega arith
+  bare_assignable_size names of_this x = omega arith
+
+  target_fits : (to : Assignable) → target_size (num.target_of tree site_of here to) ≤ assignable_size to
+  target_fits (num.a_local k) = omega arith
+  target_fits (num.a_global k) = omega arith
+  target_fits (num.a_super name) = omega arith
+  target_fits (num.a_member e span) = omega arith
+  target_fits (num.an_element e i span) = omega arith
+
+  update_fits : (to : Assignable) → update_size (num.update_of tree site_of here to) ≤ assignable_size to
+  update_fits (num.a_local k) = omega arith
+  update_fits (num.a_global k) = omega arith
+  update_fits (num.a_super name) = omega arith
+  update_fits (num.a_member e span) = omega arith
+  update_fits (num.an_element e i span) = omega arith
+
+  assigned_size : (op : Option BinaryOperator) (span : Span) (to : Assignable) (e : c.Exp) → exp_size (num.assigned tree site_of here op span to e) ≤ suc (assignable_size to + exp_size e)
+  assigned_size None span to e = omega (arith, target_fits to)
+  assigned_size (Some op) span to e = omega (arith, update_fits to)
 
   prefixed_size : (op : Unary) (span : Span) (e : c.Exp) → exp_size (num.prefixed tree site_of here op span e) ≤ suc (exp_size e)
   prefixed_size unary.Minus span e = omega arith
@@ -55,7 +78,7 @@ module _ (tree : Tree) (site_of : Place → ℕ) (here : Option Text) where
   call_unit_size x args None = split (is_constructed tree x.text)
       (λ e. rw e (omega arith))
       (λ e. split (bytes_eq x.text (codes "print"))
-      (λ f. rw (e, f) (omega arith))
+      (λ f. rw (e, f) (omega (arith, printed_size args)))
       (λ f. rw (e, f) (omega arith)))
 
   call_size : (x : Name) (args : c.Exps) → exp_size (num.call tree site_of here x args) ≤ suc (suc (exps_size args))
@@ -72,21 +95,22 @@ module _ (tree : Tree) (site_of : Place → ℕ) (here : Option Text) where
     exp_fits names (t.this span) = omega arith
     exp_fits names (t.str units span) = omega arith
     exp_fits names (t.joined units span more) = omega (arith, pieces_fit names span more)
-    exp_fits names (t.bare x) = bare_size names (num.scope tree site_of here names x.text) x
+    exp_fits names (t.bare x) = bare_size names (num.owner tree site_of here names x.text) x
     exp_fits names (t.call x args) = omega (arith, call_size x (num.exps tree site_of here names args), exps_fit names args)
     exp_fits names (t.super_get span x) = omega arith
     exp_fits names (t.super_call span x args) = omega (arith, exps_fit names args)
     exp_fits names (t.paren e) = exp_fits names e
     exp_fits names (t.list span items) = omega (arith, exps_fit names items)
-    exp_fits names (t.postfix e more) = omega (arith, exp_fits names e, selected_fits names (num.exp tree site_of here names e) more)
-    exp_fits names (t.step is_before op span to) = omega (arith, spot_fits names true to)
+    exp_fits names (t.postfix e more) = omega (arith, exp_fits names e, selected_fits names more)
+    exp_fits names (t.step is_before op span to) = omega (arith, assignable_fits names to, update_fits (num.assignable tree site_of here names to))
     exp_fits names (t.unary op span e) =
         let x = num.exp tree site_of here names e in
-        unary_size (num.negated op e) (num.prefixed tree site_of here op span x) (exp_nodes e) (omega (arith, prefixed_size op span x, exp_fits names e))
+        unary_size (negated op e) (num.prefixed tree site_of here op span x) (exp_nodes e) (omega (arith, prefixed_size op span x, exp_fits names e))
     exp_fits names (t.chain e more) = omega (arith, exp_fits names e, links_fit names more)
     exp_fits names (t.is e denied span x) = omega (arith, exp_fits names e)
     exp_fits names (t.choice x y z) = omega (arith, exp_fits names x, exp_fits names y, exp_fits names z)
-    exp_fits names (t.assign to op span e) = omega (arith, spot_fits names (is_some (compound op)) to, exp_fits names e)
+    exp_fits names (t.assign to op span e) =
+        omega (arith, assigned_size (compound op) span (num.assignable tree site_of here names to) (num.exp tree site_of here names e), assignable_fits names to, exp_fits names e)
     exp_fits names (t.throw span e) = omega (arith, exp_fits names e)
 
     pub exps_fit : (names : List Text) (es : t.Exps) → exps_size (num.exps tree site_of here names es) ≤ exps_nodes es
@@ -101,32 +125,34 @@ module _ (tree : Tree) (site_of : Place → ℕ) (here : Option Text) where
     links_fit names t.no_link = omega arith
     links_fit names (t.link op span e more) = omega (arith, exp_fits names e, links_fit names more)
 
-    -- what stands before the selectors is counted as it is
-    pub selected_fits : (names : List Text) (e : c.Exp) (more : t.Selectors) → exp_size (num.selected tree site_of here names e more) ≤ exp_size e + selectors_nodes more
-    selected_fits names e t.no_selector = omega arith
-    selected_fits names e (t.select s more) = omega (arith, select_fits names e s, selected_fits names (num.select tree site_of here names e s) more)
+    pub selected_fits : (names : List Text) (more : t.Selectors) → calls_size (num.selected tree site_of here names more) ≤ selectors_nodes more
+    selected_fits names t.no_selector = omega arith
+    selected_fits names (t.select s more) = omega (arith, select_fits names s (num.selected tree site_of here names more), selected_fits names more)
 
-    pub select_fits : (names : List Text) (e : c.Exp) (s : t.Selector) → exp_size (num.select tree site_of here names e s) ≤ exp_size e + selector_nodes s
-    select_fits names e (t.get x) = omega arith
-    select_fits names e (t.send x args) = omega (arith, exps_fit names args)
-    select_fits names e (t.index span i) = omega (arith, exp_fits names i)
+    pub select_fits : (names : List Text) (s : t.Selector) (more : c.Calls) → calls_size (num.select tree site_of here names s more) ≤ selector_nodes s + calls_size more
+    select_fits names (t.get x) more = omega arith
+    select_fits names (t.send x args) more = omega (arith, exps_fit names args)
+    select_fits names (t.index span i) more = omega (arith, exp_fits names i)
 
-    pub spot_fits : (names : List Text) (reads : Bool) (e : t.Exp) → spot_size (num.spot tree site_of here names reads e) ≤ exp_nodes e
-    spot_fits names reads (t.bare x) = bare_spot_size names reads (num.scope tree site_of here names x.text) x
-    spot_fits names reads (t.super_get span x) = omega arith
-    spot_fits names reads (t.postfix e more) = omega (arith, exp_fits names e, selected_spot_fits names reads (num.exp tree site_of here names e) more)
-    spot_fits names reads _ = omega arith
+    pub assignable_fits : (names : List Text) (e : t.Exp) → assignable_size (num.assignable tree site_of here names e) ≤ exp_nodes e
+    assignable_fits names (t.bare x) = bare_assignable_size names (num.owner tree site_of here names x.text) x
+    assignable_fits names (t.super_get span x) = omega arith
+    assignable_fits names (t.postfix e more) =
+        omega (arith, exp_fits names e, last_fits names (c.postfix (num.exp tree site_of here names e) (num.all_but_last tree site_of here names more)) more)
+    assignable_fits names _ = omega arith
 
-    pub selected_spot_fits : (names : List Text) (reads : Bool) (e : c.Exp) (more : t.Selectors) → spot_size (num.selected_spot tree site_of here names reads e more) ≤ exp_size e + selectors_nodes more
-    selected_spot_fits names reads e t.no_selector = omega arith
-    selected_spot_fits names reads e (t.select s t.no_selector) = omega (arith, select_spot_fits names reads e s)
-    selected_spot_fits names reads e (t.select s (t.select x more)) =
-        omega (arith, select_fits names e s, selected_spot_fits names reads (num.select tree site_of here names e s) (t.select x more))
+    -- a receiver with all selectors but the last, and what the last one names
+    pub last_fits : (names : List Text) (e : c.Exp) (more : t.Selectors)
+        → assignable_size (num.last_of tree site_of here names e more) + calls_size (num.all_but_last tree site_of here names more) ≤ exp_size e + selectors_nodes more
+    last_fits names e t.no_selector = omega arith
+    last_fits names e (t.select s t.no_selector) = omega (arith, named_fits names e s)
+    last_fits names e (t.select s (t.select x more)) =
+        omega (arith, select_fits names s (num.all_but_last tree site_of here names (t.select x more)), last_fits names e (t.select x more))
 
-    pub select_spot_fits : (names : List Text) (reads : Bool) (e : c.Exp) (s : t.Selector) → spot_size (num.select_spot tree site_of here names reads e s) ≤ exp_size e + selector_nodes s
-    select_spot_fits names reads e (t.get x) = omega arith
-    select_spot_fits names reads e (t.send x args) = omega arith
-    select_spot_fits names reads e (t.index span i) = omega (arith, exp_fits names i)
+    pub named_fits : (names : List Text) (e : c.Exp) (s : t.Selector) → assignable_size (num.named_by tree site_of here names e s) ≤ exp_size e + selector_nodes s
+    named_fits names e (t.get x) = omega arith
+    named_fits names e (t.send x args) = omega arith
+    named_fits names e (t.index span i) = omega (arith, exp_fits names i)
 
   pub value_fits : (names : List Text) (other : Literal) (v : Option t.Exp) → exp_size (num.exp_or tree site_of here names other v) ≤ value_nodes v
   value_fits names other None = omega arith
@@ -148,7 +174,7 @@ module _ (tree : Tree) (site_of : Place → ℕ) (here : Option Text) where
     sta_fits names (t.while e x) = omega (arith, exp_fits names e, sta_fits names x)
     sta_fits names (t.do_while x e) = omega (arith, exp_fits names e, sta_fits names x)
     sta_fits names (t.for start e last x) =
-        let inner = num.after_first tree site_of here names start in
+        let inner = num.after_first names start in
         omega (arith, first_fits names start, value_fits inner (l.Bool true) e, exps_fit inner last, sta_fits inner x)
     sta_fits names (t.break span) = omega arith
     sta_fits names (t.continue span) = omega arith
@@ -156,30 +182,4 @@ module _ (tree : Tree) (site_of : Place → ℕ) (here : Option Text) where
 
     pub stas_fit : (names : List Text) (xs : t.Stas) → stas_size (num.stas tree site_of here names xs) ≤ stas_nodes xs
     stas_fit names t.done = omega arith
-    stas_fit names (t.next x more) = omega (arith, sta_fits names x, stas_fit (num.after tree site_of here names x) more)
-
-  -- ---- bodies that are the numbered form of those of the tree
-
-  pub body_fits : (p : Parts) (names : List Text) (b : t.Body) (x : Body) → IsBody tree site_of p here names b x → body_size x ≤ body_nodes b
-  body_fits p names (t.arrow e) (body.Arrow x) h = omega (arith, ap exp_size h.0, exp_fits names e)
-  body_fits p names (t.code all) (body.Block x) h = omega (arith, ap stas_size h.0, stas_fit names all)
-  body_fits p names (t.arrow e) (body.Block x) h = absurd h
-  body_fits p names (t.code all) (body.Arrow x) h = absurd h
-
-replicated : {A : Type 0} (n : ℕ) (a : A) → length (replicate n a) ≡ n
-replicated zero a = refl
-replicated (suc n) a = omega (arith, replicated n a)
-
--- as many parameters as the tree has
-pub params_fit : (tree : Tree) (site_of : Place → ℕ) (p : Parts) (params : List Param) (required : ℕ) (defaults : List Literal) → AreParams tree site_of p params required defaults → required + length defaults ≡ length params
-params_fit tree site_of p params required defaults h =
-    let same = ap (λ (xs : List Value). length xs) h in
-    omega (arith, same, length-append (replicate required null) (map literal defaults), replicated required null, length-map defaults literal, length-map params (λ (k : Param). literal_or_null k.default))
-
-pub function_fits : (tree : Tree) (site_of : Place → ℕ) (p : Parts) (f : t.Function) (k : Function) → IsFunction tree site_of p f k → function_size k ≤ function_nodes f
-function_fits tree site_of p f k h = omega (arith, params_fit tree site_of p f.params k.required k.defaults h.0, body_fits tree site_of None p (num.param_names f.params) f.body k.body h.1)
-
-pub constructor_fits : (tree : Tree) (site_of : Place → ℕ) (p : Parts) (class : Text) (k : classes.Constructor) (b : Constructor) → IsConstructor tree site_of p class k b
-    → constructor_size (Some b) ≤ length k.params + exps_nodes k.passes + stas_nodes k.body
-constructor_fits tree site_of p class k b h =
-    omega (arith, params_fit tree site_of p k.params b.required b.defaults h.params, ap exps_size h.passes, ap stas_size h.body, exps_fit tree site_of (Some class) (num.param_names k.params) k.passes, stas_fit tree site_of (Some class) (num.body_names k.params) k.body)
+    stas_fit names (t.next x more) = omega (arith, sta_fits names x, stas_fit (num.after names x) more)

@@ -3,14 +3,14 @@ use Rattle.std.proofs.Common.{◌≡◌, ℕ, suc, ◌-◌, ◌<◌, ◌≤◌, 
 use Rattle.dart_syntax.specs.declared.token.Sign.{Sign}
 use Rattle.dart_syntax.specs.declared.open.Open.{Open}
 use Rattle.dart_syntax.specs.Words.{Tokens}
-use Rattle.dart_syntax.specs.Bytes.{Text, span}
+use Rattle.dart_syntax.specs.Bytes.{Text}
 use Rattle.dart_syntax.specs.Signs.{Table, signs, Spells}
 use Rattle.dart_syntax.specs.Strings.{Segment}
 use Rattle.dart_syntax.specs.Strings as st
 use Rattle.dart_syntax.specs.Tokens.{Takes, Runs, TokenList}
 use Rattle.dart_syntax.specs.Tokens as to
 use Rattle.dart_syntax.proofs.Lengths.{run_shorter, comment_shorter, raw_shorter}
-use Rattle.read_back.proofs.Marks.{both_true}
+use Rattle.dart_printer.proofs.Marks.{both_true}
 
 -- They start at lo or behind, each behind the one before, and all before hi.
 abbrev pub Rises : ℕ → Tokens → ℕ → Type 0

@@ -9,7 +9,7 @@ use Rattle.dart_syntax.specs.Grammar as gr
 use Rattle.dart_meaning.specs.declared.seen.Seen.TheVariants.{Late}
 use Rattle.dart_meaning.specs.Uses as u
 use Rattle.dart_meaning.specs.Uses.{Scope, declared_uses, declared, locals, opened, after, after_first, exp_if}
-use Rattle.read_back.specs.ReadsBack.{ArePossible}
+use Rattle.dart_printer.specs.ReadsBack.{ArePossible}
 use Rattle.text_trees.specs.Nodes.{value_nodes, first_nodes, sta_nodes, stas_nodes}
 use Rattle.text_trees.specs.Written.{IsWrittenValue, IsWrittenFirst, IsWrittenSta, AreWrittenStas}
 use Rattle.text_trees.proofs.Weights.{Weight, tokens, join, Fine}

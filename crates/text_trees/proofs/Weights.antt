@@ -3,17 +3,15 @@ use Rattle.std.proofs.Common.{◌≡◌, ℕ, ◌+◌, ◌*◌, ◌≤◌, Bool,
 use Rattle.dart_syntax.specs.declared.token.Span.{Span}
 use Rattle.dart_syntax.specs.declared.token.TokenKind.{TokenKind}
 use Rattle.dart_syntax.specs.declared.token.TokenKind.TheVariants as tk
-use Rattle.dart_syntax.specs.declared.tree.Name.{Name}
 use Rattle.dart_syntax.specs.declared.tree.Unary.{Unary}
 use Rattle.dart_syntax.specs.declared.tree.Unary.TheVariants as unary
-use Rattle.dart_syntax.specs.declared.tree.Binary.{Binary}
-use Rattle.dart_syntax.specs.declared.tree.Binary.TheVariants as binary
+use Rattle.program.specs.declared.body.BinaryOperator.{BinaryOperator}
 use Rattle.dart_syntax.specs.Words.{Tokens}
 use Rattle.dart_syntax.specs.Bytes.{Text}
 use Rattle.dart_syntax.specs.Syntax.{Exp}
 use Rattle.dart_meaning.specs.Uses as u
 use Rattle.dart_meaning.specs.Uses.{Use, Part}
-use Rattle.read_back.specs.ReadsBack.{ArePossible}
+use Rattle.dart_printer.specs.ReadsBack.{ArePossible}
 
 abbrev pub Weight : Type 0
 Weight = ℕ → Text → ℕ
@@ -79,12 +77,7 @@ module _ (p : Weight) where
   prefix_weight unary.Complement at x = omega arith
   prefix_weight unary.Minus at x = split (u.is_number x) (λ e. rw e (omega arith)) (λ e. rw e (omega arith))
 
-  pub link_weight : (op : Binary) (at : Span) → weigh (u.link_use op at) ≤ read_weight at []
-  link_weight binary.And at = omega arith
-  link_weight binary.Or at = omega arith
-  link_weight _ at = omega arith
-
-  pub operator_weight : (op : Option Binary) (at : Span) → weigh (u.operator_use op at) ≤ read_weight at []
+  pub operator_weight : (op : Option BinaryOperator) (at : Span) → weigh (u.operator_use op at) ≤ read_weight at []
   operator_weight None at = omega arith
   operator_weight (Some op) at = omega arith
 

@@ -14,7 +14,7 @@ use Rattle.dart_syntax.proofs.TokenLists.{proper_tokens}
 use Rattle.dart_meaning.specs.Place.{Place, reading, writing, in_print, in_list}
 use Rattle.dart_meaning.specs.Uses.{parts}
 use Rattle.dart_meaning.specs.Sites.{key, text_sites}
-use Rattle.read_back.proofs.Possible.{are_possible}
+use Rattle.dart_printer.proofs.Possible.{are_possible}
 use Rattle.text_trees.specs.Nodes.{all_nodes, top_nodes}
 use Rattle.text_trees.specs.Written.{IsWritten, IsWrittenTop, IsWrittenSite, Each, SitesWithin, StandsInText, byte_of}
 use Rattle.text_trees.proofs.Weights.{Weight, split, weigh_parts, tokens, join_tokens, Fine}

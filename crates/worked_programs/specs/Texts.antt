@@ -223,6 +223,32 @@ construction = source (
     codes "  print(Object());" ∷
     codes "}" ∷ [])
 
+-- What the arguments of `super` do to a parameter is seen in the constructor's body.
+abbrev pub parameters_of_a_constructor : Text
+parameters_of_a_constructor = source (
+    codes "class A { A(y); }" ∷
+    codes "class B extends A { B(x) : super(x = 5) { print(x); } }" ∷
+    codes "class C extends A { C(x) : super(x++) { print(x); } }" ∷
+    codes "class D extends A { D(x) : super(x += 1) { print(x); } }" ∷
+    codes "class E extends A { E(this.e, x) : super(x > 2 ? (x = 7) : 0) { e = e + x; print(e); } var e; }" ∷
+    codes "main() { B(1); C(1); D(1); E(1, 3); E(1, 1); }" ∷ [])
+
+abbrev pub calls_in_order : Text
+calls_in_order = source (
+    codes "class L {" ∷
+    codes "  var n;" ∷
+    codes "  L(this.n);" ∷
+    codes "  operator [](i) { print('$n[$i]'); return L(n * 10 + i); }" ∷
+    codes "  operator []=(i, v) { print('$n[$i]='); }" ∷
+    codes "  get g { print('$n.g'); return L(n + 1); }" ∷
+    codes "}" ∷
+    codes "l(n) { print('l$n'); return L(n); }" ∷
+    codes "i(n) { print('i$n'); return n; }" ∷
+    codes "main() {" ∷
+    codes "  print(l(1)[i(2)].g[i(3)].n);" ∷
+    codes "  l(4)[i(5)] = i(6);" ∷
+    codes "}" ∷ [])
+
 abbrev pub shapes : Text
 shapes = source (
     codes "abstract class Shape {" ∷

@@ -50,3 +50,13 @@ pub fn names()
 pub fn construction()
     ensures { Does text.construction (codes "main") 100 (codes "in A" ∷ codes "in B" ∷ codes "3" ∷ codes "b" ∷ codes "4" ∷ codes "Instance of 'Object'" ∷ []) done ((0, 3) ∷ (7, 4) ∷ (2, 8) ∷ (3, 3) ∷ (1, 8) ∷ (7, 4) ∷ (4, 8) ∷ (7, 3) ∷ (5, 8) ∷ (7, 4) ∷ (6, 8) ∷ (7, 3) ∷ (7, 0) ∷ []) [] }
 {}
+
+/// A constructor's parameters are variables of what it passes on and of its body, each one variable.
+pub fn parameters_of_a_constructor()
+    ensures { Does text.parameters_of_a_constructor (codes "main") 100 (codes "5" ∷ codes "2" ∷ codes "2" ∷ codes "8" ∷ codes "2" ∷ []) done ((7, 3) ∷ (0, 3) ∷ (7, 3) ∷ (1, 3) ∷ (7, 3) ∷ (2, 3) ∷ (4, 11) ∷ (5, 3) ∷ (3, 11) ∷ (6, 11) ∷ (7, 3) ∷ (2, 3) ∷ (4, 11) ∷ (5, 3) ∷ (3, 11) ∷ (6, 11) ∷ (7, 3) ∷ []) [] }
+{}
+
+/// A chain of calls goes from its receiver on, and a receiver is evaluated before its index, and both before what is assigned.
+pub fn calls_in_order()
+    ensures { Does text.calls_in_order (codes "main") 100 (codes "l1" ∷ codes "i2" ∷ codes "1[2]" ∷ codes "12.g" ∷ codes "i3" ∷ codes "13[3]" ∷ codes "133" ∷ codes "l4" ∷ codes "i5" ∷ codes "i6" ∷ codes "4[5]=" ∷ []) done ((13, 3) ∷ (20, 4) ∷ (14, 3) ∷ (20, 4) ∷ (15, 7) ∷ (1, 7) ∷ (0, 3) ∷ (2, 3) ∷ (20, 4) ∷ (3, 7) ∷ (4, 3) ∷ (5, 3) ∷ (16, 7) ∷ (10, 7) ∷ (9, 3) ∷ (20, 4) ∷ (11, 7) ∷ (12, 3) ∷ (14, 3) ∷ (20, 4) ∷ (17, 7) ∷ (1, 7) ∷ (0, 3) ∷ (2, 3) ∷ (20, 4) ∷ (3, 7) ∷ (4, 3) ∷ (5, 3) ∷ (18, 7) ∷ (20, 3) ∷ (13, 3) ∷ (20, 4) ∷ (14, 3) ∷ (20, 4) ∷ (14, 3) ∷ (20, 4) ∷ (19, 7) ∷ (7, 7) ∷ (6, 3) ∷ (8, 3) ∷ (20, 4) ∷ []) [] }
+{}

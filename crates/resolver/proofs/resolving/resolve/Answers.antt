@@ -3,7 +3,7 @@ use Rattle.program.specs.Program.{parts_of}
 use Rattle.text_trees.proofs.Whole.{are_written}
 use Rattle.accepted_trees.proofs.Whole.{does_the_same}
 use Rattle.resolver.proofs.Programs.{counts_are}
-use Rattle.resolver.proofs.Entries.{entries_are}
+use Rattle.resolver.proofs.Entries.{entries_are, entries_mean}
 use Rattle.resolver.proofs.resolving.resolve.Goals as goal
 
 pub number-requires-clause-written : goal.number-requires-clause-written
@@ -22,3 +22,6 @@ returns-clause-counts c = counts_are c.args.text.now (unit c.args.tree.now) (par
 
 pub returns-clause-entries : goal.returns-clause-entries
 returns-clause-entries c = entries_are c.args.text.now (unit c.args.tree.now) c.in_ok-program.program c.in_ok-program.ensures
+
+pub returns-clause-means : goal.returns-clause-means
+returns-clause-means c = entries_mean c.args.text.now (unit c.args.tree.now) c.in_ok-program.program c.in_ok-program.ensures (returns-clause-same c)

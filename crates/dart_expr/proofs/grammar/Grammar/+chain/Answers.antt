@@ -35,7 +35,7 @@ links-returns g t c =
 pub followed-returns : goal.followed-returns
 unfolding followed
 followed-returns g t c =
-    let e = some_links c.args.first c.in_ok-links.links c.if-is_empty.ensures.1 in
+    let e = some_links c.args.first c.in-Ok.links c.if-is_empty.ensures.1 in
     first_of (search rules, grind (arith, common_steps))
 
 pub chain-returns-in_err-x : goal.chain-returns-in_err-x

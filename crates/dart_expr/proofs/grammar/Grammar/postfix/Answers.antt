@@ -7,5 +7,5 @@ use Rattle.dart_expr.proofs.grammar.Grammar.postfix.Goals as goal
 pub returns : goal.returns
 unfolding postfix
 returns g c =
-    let e = some_selectors (expr c.args.self.now.depth) c.in_ok-first.first c.in_ok-selectors.selectors c.if-is_empty.ensures.1 in
+    let e = some_selectors (expr c.args.self.now.depth) c.in_ok-first.first c.in-Ok.selectors c.if-is_empty.ensures.1 in
     first_of (search rules, grind (arith, common_steps))

@@ -1,0 +1,9 @@
+pub mod Lists
+pub mod ClassRules
+pub mod WaysEnd
+pub mod Chains
+pub mod EachClassOnce
+pub mod Numbers
+pub mod SameHierarchy
+pub mod ClassesAgree
+pub mod ClassesSound

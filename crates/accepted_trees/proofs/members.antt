@@ -1,0 +1,9 @@
+pub mod FirstFound
+pub mod Declared
+pub mod SameLookups
+pub mod SuperMembers
+pub mod MethodsDiffer
+pub mod NoSuchMethods
+pub mod MethodsSound
+pub mod Counts
+pub mod ClassTables

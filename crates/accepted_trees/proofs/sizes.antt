@@ -1,0 +1,3 @@
+pub mod SizesOfForms
+pub mod Sums
+pub mod FewNodes

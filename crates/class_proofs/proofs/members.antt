@@ -1,9 +1,0 @@
-pub mod Finds
-pub mod Forms
-pub mod Lookups
-pub mod Supers
-pub mod MethodsDiffer
-pub mod NoSuchMethods
-pub mod MethodsSound
-pub mod Counts
-pub mod ClassTables

@@ -1,5 +1,0 @@
-pub mod Order
-pub mod Selectors
-pub mod TextSites
-pub mod Tables
-pub mod Arguments

@@ -1,2 +1,0 @@
-//! What the tables of sites and selectors of a numbered program have.
-#![tactic(auto)]
