@@ -6,14 +6,12 @@ use Rattle.std.specs.HashMap.{HashMap}
 use Rattle.std.specs.Borrow.{Bor}
 use Rattle.dart_syntax.specs.Bytes.{Text}
 use Rattle.dart_syntax.specs.Syntax as t
-use Rattle.dart_syntax.specs.Syntax.{Tree, Sta, First}
+use Rattle.dart_syntax.specs.Syntax.{Sta, First}
 use Rattle.body_numbers.specs.Maps.{in_map, with_meaning, nothing}
 use Rattle.body_numbers.proofs.Maps.{set_and_back}
-use Rattle.dart_meaning.specs.Place.{Place}
-use Rattle.dart_meaning.specs.Numbering as num
-use Rattle.dart_meaning.specs.Numbering.{index_of}
+use Rattle.dart_meaning.specs.Numbering.{index_of, after, after_first}
 use Rattle.body_numbers.specs.declared.slots.Open.{Open}
-use Rattle.body_numbers.specs.Open.{slots, names_of, IsKept, Grown, after}
+use Rattle.body_numbers.specs.Open.{slots, names_of, IsKept, Grown}
 
 one_further : (n : ℕ) (o : Option ℕ) → option_map (λ k. n - suc k) o ≡ option_map (λ k. suc n - suc k) (option_map suc o)
 one_further n None = refl
@@ -103,11 +101,11 @@ grown_after names (t.break span) = ([], refl)
 grown_after names (t.continue span) = ([], refl)
 grown_after names (t.return span e) = ([], refl)
 
-pub grown_first : (tree : Tree) (site_of : Place → ℕ) (here : Option Text) (names : List Text) (x : First) → Grown names (num.after_first tree site_of here names x)
+pub grown_first : (names : List Text) (x : First) → Grown names (after_first names x)
 unfolding Grown
-grown_first tree site_of here names (t.local_first x) = (x.name.text ∷ [], refl)
-grown_first tree site_of here names t.nothing = ([], refl)
-grown_first tree site_of here names (t.run_first e) = ([], refl)
+grown_first names (t.local_first x) = (x.name.text ∷ [], refl)
+grown_first names t.nothing = ([], refl)
+grown_first names (t.run_first e) = ([], refl)
 
 -- What was open is open again, once the newer ones are closed.
 pub grown_back : (old new closed : List Text) (count : ℕ) → Grown old new → count ≡ length old → closed ≡ drop (length new - count) new → closed ≡ old

@@ -3,3 +3,4 @@ pub mod Open
 pub mod Views
 pub mod Meant
 pub mod Bodies
+pub mod Assigned

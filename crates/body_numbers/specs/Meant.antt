@@ -9,6 +9,6 @@ use Rattle.body_numbers.specs.declared.meant.Meant.{Meant}
 use Rattle.body_numbers.specs.declared.meant.Meant.TheVariants as v
 
 abbrev pub IsMeant : Tree → (Place → ℕ) → Option Text → List Text → Text → Meant → Type 0
-IsMeant tree site_of here names name (v.Slot k) = (num.scope tree site_of here names name ≡ of_body) × (k ≡ num.slot tree site_of here names name)
-IsMeant tree site_of here names name (v.Variable k) = (num.scope tree site_of here names name ≡ of_unit) × (k ≡ num.variable tree site_of here name)
-IsMeant tree site_of here names name v.Member = num.scope tree site_of here names name ≡ of_this
+IsMeant tree site_of here names name (v.Slot k) = (num.owner tree site_of here names name ≡ of_body) × (k ≡ num.slot tree site_of here names name)
+IsMeant tree site_of here names name (v.Variable k) = (num.owner tree site_of here names name ≡ of_unit) × (k ≡ num.variable tree site_of here name)
+IsMeant tree site_of here names name v.Member = num.owner tree site_of here names name ≡ of_this

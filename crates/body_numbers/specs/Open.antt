@@ -4,8 +4,6 @@ use Rattle.std.specs.Option.{option_map}
 use Rattle.std.specs.HashMap.{HashMap}
 use Rattle.std.specs.Borrow.{Bor}
 use Rattle.dart_syntax.specs.Bytes.{Text}
-use Rattle.dart_syntax.specs.Syntax as t
-use Rattle.dart_syntax.specs.Syntax.{Sta}
 use Rattle.body_numbers.specs.Maps.{Meanings, in_map}
 use Rattle.dart_meaning.specs.Numbering.{index_of}
 use Rattle.body_numbers.specs.declared.slots.Open.{Open}
@@ -26,21 +24,6 @@ KeepsBefore (o ∷ more) = (o.was ≡ slots (names_of more) o.name.now) × Keeps
 pub record IsKept {S : Type 0} (known : HashMap (Bor Text) ℕ S) (stack : List Open) : Type 0 where
   pub agrees : in_map known ≡ slots (names_of stack)
   pub before : KeepsBefore stack
-
--- the names that are open behind a statement
-abbrev pub after : List Text → Sta → List Text
-after names (t.local x) = x.name.text ∷ names
-after names (t.block all) = names
-after names (t.run e) = names
-after names t.empty = names
-after names (t.when e x) = names
-after names (t.when_else e x y) = names
-after names (t.while e x) = names
-after names (t.do_while x e) = names
-after names (t.for start e last x) = names
-after names (t.break span) = names
-after names (t.continue span) = names
-after names (t.return span e) = names
 
 -- what was open, and more
 unfoldable pub Grown : List Text → List Text → Type 0

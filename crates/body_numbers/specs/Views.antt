@@ -1,35 +1,71 @@
 -- What parts of expressions of src/ stand for.
 use Rattle.std.specs.Prelude.{List, map}
-use Rattle.std.specs.Option.{option_map}
 use Rattle.program.specs.declared.body.Expression.{Expression}
 use Rattle.program.specs.declared.body.Piece.{Piece}
+use Rattle.program.specs.declared.body.SiteCall.{SiteCall}
 use Rattle.program.specs.declared.body.Link.{Link}
-use Rattle.program.specs.declared.body.Spot.{Spot}
-use Rattle.program.specs.declared.body.Spot.TheVariants as s
+use Rattle.program.specs.declared.body.AssignmentTarget.{AssignmentTarget}
+use Rattle.program.specs.declared.body.AssignmentTarget.TheVariants as to
+use Rattle.program.specs.declared.body.UpdateTarget.{UpdateTarget}
+use Rattle.program.specs.declared.body.UpdateTarget.TheVariants as up
 use Rattle.program.specs.declared.body.Statement.{Statement}
 use Rattle.program.specs.Bodies as c
+use Rattle.dart_meaning.specs.Numbering as num
+use Rattle.body_numbers.specs.declared.assignable.Assignable.{Assignable}
+use Rattle.body_numbers.specs.declared.assignable.Assignable.TheVariants as a
 
+-- expressions from left to right
 abbrev pub exps_of : List Expression → c.Exps
 exps_of xs = c.exps (map c.exp xs)
 
+-- an interpolation
 abbrev pub piece_of : Piece Expression → Piece c.Exp
 piece_of p = record { site = p.site; value = c.exp p.value; then = p.then }
 
+-- the interpolations of a string
 abbrev pub pieces_of : List (Piece Expression) → c.Pieces
 pieces_of xs = c.pieces (map piece_of xs)
 
-abbrev pub link_of : Link Expression → Link c.Exp
-link_of l = record { operator = l.operator; site = l.site; operand = c.exp l.operand }
+-- a call through a site
+abbrev pub call_of : SiteCall Expression → SiteCall c.Exp
+call_of k = record { site = k.site; arguments = map c.exp k.arguments }
 
+-- the calls behind a receiver
+abbrev pub calls_of : List (SiteCall Expression) → c.Calls
+calls_of xs = c.calls (map call_of xs)
+
+-- an operator with its right side
+abbrev pub link_of : Link Expression → Link c.Exp
+link_of l = record { joint = l.joint; operand = c.exp l.operand }
+
+-- operators of one level
 abbrev pub links_of : List (Link Expression) → c.Links
 links_of xs = c.links (map link_of xs)
 
-abbrev pub spot_of : Spot Expression → c.Spot
-spot_of (s.Local k) = c.local_spot k
-spot_of (s.Global k) = c.global_spot k
-spot_of (s.Above g m) = c.above_spot (option_map (λ k. k.0) g) m.0
-spot_of (s.Member e g k) = c.member_spot (c.exp e) (option_map (λ k. k.0) g) k.0
-spot_of (s.Element e i g k) = c.element_spot (c.exp e) (c.exp i) (option_map (λ k. k.0) g) k.0
+-- what a plain assignment writes
+abbrev pub target_of : AssignmentTarget Expression → c.Target
+target_of (to.Local k) = c.to_local k
+target_of (to.Global k) = c.to_global k
+target_of (to.Super m) = c.to_super m.0
+target_of (to.Member e s) = c.to_member (c.exp e) s.0
+target_of (to.Element e i s) = c.to_element (c.exp e) (c.exp i) s.0
 
+-- what is read and then written
+abbrev pub update_of : UpdateTarget Expression → c.Update
+update_of (up.Local k) = c.of_local k
+update_of (up.Global k) = c.of_global k
+update_of (up.Super g m) = c.of_super g.0 m.0
+update_of (up.Member e g s) = c.of_member (c.exp e) g.0 s.0
+update_of (up.Element e i g s) = c.of_element (c.exp e) (c.exp i) g.0 s.0
+
+-- what is assigned to, before it is a target or an update
+abbrev pub assignable_of : Assignable → num.Assignable
+assignable_of (a.Local k) = num.a_local k
+assignable_of (a.Global k) = num.a_global k
+assignable_of (a.Super name) = num.a_super name.now
+assignable_of (a.Member e span) = num.a_member (c.exp e) span
+assignable_of (a.Element e i span) = num.an_element (c.exp e) (c.exp i) span
+
+-- statements one after the other
 abbrev pub stas_of : List Statement → c.Stas
 stas_of xs = c.stas (map c.sta xs)

@@ -9,7 +9,7 @@ ghost use Rattle.body_numbers.specs.Bodies.{numbered, passed_args, block_or_none
 
 use crate::exprs::{expression, expressions};
 use crate::numbers::Numbers;
-use crate::slots::{with_params, with_plain_params};
+use crate::slots::{with_body_params, with_params};
 use crate::stmts::statements;
 use dart_syntax::tree;
 use dart_syntax::tree::{Param, Passed, Stmt};
@@ -70,7 +70,7 @@ pub fn block_of<'a, N: Numbers>(
     match body {
         None => Ok(Items::new(alloc)),
         Some(all) => {
-            let mut slots = with_plain_params(alloc, params)?;
+            let mut slots = with_body_params(alloc, params)?;
             statements(alloc, numbers, &mut slots, all.as_slice())
         }
     }

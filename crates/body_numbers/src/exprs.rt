@@ -1,24 +1,26 @@
 //! Numbers expressions.
 
-ghost use Rattle.std.specs.Prelude.{◌≡◌, IfOk, map};
+ghost use Rattle.std.specs.Prelude.{◌≡◌, ◌∷◌, [], IfOk, map};
 ghost use Rattle.dart_syntax.specs.Syntax.{exps, pieces, links, selectors};
 ghost use Rattle.dart_syntax.specs.View.{exp, piece, link, selector};
 ghost use Rattle.program.specs.Bodies as c;
+ghost use Rattle.dart_meaning.specs.Literals as literals;
 ghost use Rattle.dart_meaning.specs.Numbering as num;
-ghost use Rattle.body_numbers.specs.Views.{exps_of, pieces_of, links_of, spot_of};
+ghost use Rattle.body_numbers.specs.Views.{exps_of, pieces_of, calls_of, links_of, assignable_of};
+ghost use Rattle.body_numbers.specs.Assigned.{named_last};
 
+use crate::assignable::{Assignable, assigned, increment};
 use crate::numbers::Numbers;
-use crate::operators::{compound, negated, operator_of, step_operator};
 use crate::pieces::{
-    assignment, bare, bare_spot, call, element_spot, link_site, member_spot, operating, prefixed,
-    room_for, send, string, super_spot, units_of,
+    bare, bare_assignable, call, joint_of, postfix, prefixed, room_for, site_call, string, units_of,
 };
 use crate::slots::Slots;
+use dart_meaning::operators::{compound, negated, step_operator};
 use dart_syntax::token::Span;
 use dart_syntax::tree;
 use dart_syntax::tree::{Expr, Selector, Unary};
 use ds_base::NoMemory;
-use program::{Expression, Link, Literal, Piece, SelectorKind, Spot};
+use program::{Expression, Link, Literal, Piece, SelectorKind, SiteCall};
 use sqlite_items::{Boxed, Items};
 use std::alloc::Global;
 
@@ -41,7 +43,7 @@ pub fn expression<N: Numbers>(
         Expr::Joined(units, at, more) => {
             let units = units_of(alloc, units)?;
             let more = interpolations(alloc, numbers, slots, *at, more.as_slice())?;
-            Ok(Expression::Str(units, more))
+            Ok(Expression::Interpolation(units, more))
         }
         Expr::Name(name) => bare(alloc, numbers, slots, name),
         Expr::Call(name, args) => {
@@ -50,12 +52,12 @@ pub fn expression<N: Numbers>(
         }
         Expr::SuperGet(_, name) => {
             let getter = numbers.super_number(SelectorKind::Get, name.text.as_slice());
-            Ok(Expression::Above(getter, Items::new(alloc)))
+            Ok(Expression::Super(getter, Items::new(alloc)))
         }
         Expr::SuperCall(_, name, args) => {
             let method = numbers.super_number(SelectorKind::Call, name.text.as_slice());
             let args = expressions(alloc, numbers, slots, args.as_slice())?;
-            Ok(Expression::Above(method, args))
+            Ok(Expression::Super(method, args))
         }
         Expr::Paren(x) => expression(alloc, numbers, slots, x.get()),
         Expr::List(_, items) => {
@@ -63,13 +65,14 @@ pub fn expression<N: Numbers>(
             Ok(Expression::List(items))
         }
         Expr::Postfix(x, more) => {
-            let x = expression(alloc, numbers, slots, x.get())?;
-            selected(alloc, numbers, slots, more.as_slice(), x)
+            let x = boxed(alloc, numbers, slots, x.get())?;
+            let more = selected(alloc, numbers, slots, more.as_slice())?;
+            Ok(Expression::Postfix(x, more))
         }
         Expr::Step(is_before, step, at, to) => {
-            let operator = operating(numbers, step_operator(*step), *at);
-            let to = spot(alloc, numbers, slots, true, to.get())?;
-            Ok(Expression::Step(*is_before, operator, to))
+            let operator = step_operator(*step);
+            let to = assignable(alloc, numbers, slots, to.get())?;
+            Ok(increment(numbers, *is_before, operator, *at, to))
         }
         Expr::Unary(op, at, x) => signed(alloc, numbers, slots, *op, *at, x.get()),
         Expr::Chain(x, more) => {
@@ -86,12 +89,12 @@ pub fn expression<N: Numbers>(
             let x = boxed(alloc, numbers, slots, x.get())?;
             let y = boxed(alloc, numbers, slots, y.get())?;
             let z = boxed(alloc, numbers, slots, z.get())?;
-            Ok(Expression::Choice(x, y, z))
+            Ok(Expression::Conditional(x, y, z))
         }
         Expr::Assign(to, op, at, x) => {
-            let to = spot(alloc, numbers, slots, compound(*op).is_some(), to.get())?;
             let x = boxed(alloc, numbers, slots, x.get())?;
-            Ok(assignment(numbers, to, *op, *at, x))
+            let to = assignable(alloc, numbers, slots, to.get())?;
+            Ok(assigned(numbers, compound(*op), *at, to, x))
         }
         Expr::Throw(_, x) => {
             let x = boxed(alloc, numbers, slots, x.get())?;
@@ -124,12 +127,12 @@ fn signed<N: Numbers>(
     at: Span,
     e: &Expr,
 ) -> Result<Expression, NoMemory>
-    ensures { IfOk result (λ x. c.exp x ≡ num.unary (N.tree numbers.now) (N.site_of numbers.now) (N.here numbers.now) (num.negated op (exp e.now)) (num.prefixed (N.tree numbers.now) (N.site_of numbers.now) (N.here numbers.now) op at (num.exp (N.tree numbers.now) (N.site_of numbers.now) (N.here numbers.now) slots.now (exp e.now)))) }
+    ensures { IfOk result (λ x. c.exp x ≡ num.unary (N.tree numbers.now) (N.site_of numbers.now) (N.here numbers.now) (literals.negated op (exp e.now)) (num.prefixed (N.tree numbers.now) (N.site_of numbers.now) (N.here numbers.now) op at (num.exp (N.tree numbers.now) (N.site_of numbers.now) (N.here numbers.now) slots.now (exp e.now)))) }
 {
     match negated(op, e) {
         Some(number) => Ok(Expression::Constant(number)),
         None => {
-            let x = expression(alloc, numbers, slots, e)?;
+            let x = boxed(alloc, numbers, slots, e)?;
             prefixed(alloc, numbers, op, at, x)
         }
     }
@@ -168,8 +171,8 @@ fn interpolations<N: Numbers>(
     let mut at = first;
     for piece in all {
         let site = numbers.site(at);
-        let value = expression(alloc, numbers, slots, &piece.value)?;
         let then = units_of(alloc, &piece.then)?;
+        let value = expression(alloc, numbers, slots, &piece.value)?;
         found.push(Piece { site, value, then })?;
         at = piece.span;
     }
@@ -188,77 +191,86 @@ fn operations<N: Numbers>(
 {
     let mut found = room_for(alloc, all.len())?;
     for link in all {
-        let operator = operator_of(link.operator);
-        let site = link_site(numbers, operator, link.span);
+        let joint = joint_of(numbers, link.operator, link.span);
         let operand = expression(alloc, numbers, slots, &link.operand)?;
-        found.push(Link {
-            operator,
-            site,
-            operand,
-        })?;
+        found.push(Link { joint, operand })?;
     }
     Ok(found)
 }
 
-/// A value and the selectors behind it.
+/// The calls of selectors, each on what the one before it answered.
 #[cycle(numbering)]
 fn selected<N: Numbers>(
     alloc: Global,
     numbers: &N,
     slots: &Slots,
     all: &[Selector],
-    to: Expression,
-) -> Result<Expression, NoMemory>
-    ensures { IfOk result (λ x. c.exp x ≡ num.selected (N.tree numbers.now) (N.site_of numbers.now) (N.here numbers.now) slots.now (c.exp to) (selectors (map selector all.now))) }
+) -> Result<Items<SiteCall<Expression>>, NoMemory>
+    ensures { IfOk result (λ xs. calls_of xs ≡ num.selected (N.tree numbers.now) (N.site_of numbers.now) (N.here numbers.now) slots.now (selectors (map selector all.now))) }
 {
-    let mut found = to;
+    let mut found = room_for(alloc, all.len())?;
     for s in all {
-        found = select(alloc, numbers, slots, s, found)?;
+        let call = select(alloc, numbers, slots, s)?;
+        found.push(call)?;
     }
     Ok(found)
 }
 
+/// The call of one selector.
 #[cycle(numbering)]
 fn select<N: Numbers>(
     alloc: Global,
     numbers: &N,
     slots: &Slots,
     s: &Selector,
-    to: Expression,
-) -> Result<Expression, NoMemory>
-    ensures { IfOk result (λ x. c.exp x ≡ num.select (N.tree numbers.now) (N.site_of numbers.now) (N.here numbers.now) slots.now (c.exp to) (selector s.now)) }
+) -> Result<SiteCall<Expression>, NoMemory>
+    ensures { IfOk result (λ x. calls_of (x ∷ []) ≡ num.select (N.tree numbers.now) (N.site_of numbers.now) (N.here numbers.now) slots.now (selector s.now) c.no_call) }
 {
     match s {
-        Selector::Member(name) => send(alloc, numbers, name.span, to, Items::new(alloc)),
+        Selector::Member(name) => Ok(site_call(numbers, name.span, Items::new(alloc))),
         Selector::Invoke(name, args) => {
             let args = expressions(alloc, numbers, slots, args.as_slice())?;
-            send(alloc, numbers, name.span, to, args)
+            Ok(site_call(numbers, name.span, args))
         }
         Selector::Index(at, index) => {
-            let mut args = room_for(alloc, 1)?;
-            args.push(expression(alloc, numbers, slots, index)?)?;
-            send(alloc, numbers, *at, to, args)
+            let args = alone(alloc, numbers, slots, index)?;
+            Ok(site_call(numbers, *at, args))
         }
     }
 }
 
-/// What is assigned to.
+/// One argument.
 #[cycle(numbering)]
-fn spot<N: Numbers>(
+fn alone<N: Numbers>(
     alloc: Global,
     numbers: &N,
     slots: &Slots,
-    reads_too: bool,
-    to: &Expr,
-) -> Result<Spot<Boxed<Expression>>, NoMemory>
-    ensures { IfOk result (λ x. spot_of x ≡ num.spot (N.tree numbers.now) (N.site_of numbers.now) (N.here numbers.now) slots.now reads_too (exp to.now)) }
+    e: &Expr,
+) -> Result<Items<Expression>, NoMemory>
+    ensures { IfOk result (λ xs. exps_of xs ≡ c.also (num.exp (N.tree numbers.now) (N.site_of numbers.now) (N.here numbers.now) slots.now (exp e.now)) c.no_more) }
+{
+    let mut args = room_for(alloc, 1)?;
+    let x = expression(alloc, numbers, slots, e)?;
+    args.push(x)?;
+    Ok(args)
+}
+
+/// What is assigned to.
+#[cycle(numbering)]
+fn assignable<'a, N: Numbers>(
+    alloc: Global,
+    numbers: &N,
+    slots: &Slots,
+    to: &'a Expr,
+) -> Result<Assignable<'a>, NoMemory>
+    ensures { IfOk result (λ x. assignable_of x ≡ num.assignable (N.tree numbers.now) (N.site_of numbers.now) (N.here numbers.now) slots.now (exp to.now)) }
 {
     match to {
-        Expr::Name(name) => bare_spot(alloc, numbers, slots, reads_too, name),
-        Expr::SuperGet(_, name) => Ok(super_spot(numbers, reads_too, name)),
+        Expr::Name(name) => bare_assignable(alloc, numbers, slots, name),
+        Expr::SuperGet(_, name) => Ok(Assignable::Super(name.text.as_slice())),
         Expr::Postfix(x, more) => {
-            let x = expression(alloc, numbers, slots, x.get())?;
-            selected_spot(alloc, numbers, slots, reads_too, more.as_slice(), x)
+            let x = boxed(alloc, numbers, slots, x.get())?;
+            last_of(alloc, numbers, slots, more.as_slice(), x)
         }
         Expr::Null(_)
         | Expr::Bool(_, _)
@@ -277,50 +289,50 @@ fn spot<N: Numbers>(
         | Expr::Is(_, _, _, _)
         | Expr::Cond(_, _, _)
         | Expr::Assign(_, _, _, _)
-        | Expr::Throw(_, _) => Ok(Spot::Local(0)),
+        | Expr::Throw(_, _) => Ok(Assignable::Local(0)),
     }
 }
 
-/// The last selector is what is assigned to.
+/// The last selector names what is assigned to, and those before it are its receiver.
 #[cycle(numbering)]
-fn selected_spot<N: Numbers>(
+fn last_of<'a, N: Numbers>(
     alloc: Global,
     numbers: &N,
     slots: &Slots,
-    reads_too: bool,
-    all: &[Selector],
-    to: Expression,
-) -> Result<Spot<Boxed<Expression>>, NoMemory>
-    ensures { IfOk result (λ x. spot_of x ≡ num.selected_spot (N.tree numbers.now) (N.site_of numbers.now) (N.here numbers.now) slots.now reads_too (c.exp to) (selectors (map selector all.now))) }
+    all: &'a [Selector],
+    to: Boxed<Expression>,
+) -> Result<Assignable<'a>, NoMemory>
+    ensures { IfOk result (λ x. assignable_of x ≡ named_last (N.tree numbers.now) (N.site_of numbers.now) (N.here numbers.now) slots.now (c.exp to) (selectors (map selector all.now))) }
 {
-    let mut found = to;
+    let mut calls = room_for(alloc, all.len())?;
     for (i, s) in all.iter().enumerate() {
         if i + 1 == all.len() {
-            return select_spot(alloc, numbers, slots, reads_too, s, found);
+            let to = postfix(alloc, to, calls)?;
+            return named_by(alloc, numbers, slots, s, to);
         }
-        let next = select(alloc, numbers, slots, s, found)?;
-        found = next;
+        let call = select(alloc, numbers, slots, s)?;
+        calls.push(call)?;
     }
-    Ok(Spot::Local(0))
+    Ok(Assignable::Local(0))
 }
 
+/// What a selector names on a receiver.
 #[cycle(numbering)]
-fn select_spot<N: Numbers>(
+fn named_by<'a, N: Numbers>(
     alloc: Global,
     numbers: &N,
     slots: &Slots,
-    reads_too: bool,
-    s: &Selector,
-    to: Expression,
-) -> Result<Spot<Boxed<Expression>>, NoMemory>
-    ensures { IfOk result (λ x. spot_of x ≡ num.select_spot (N.tree numbers.now) (N.site_of numbers.now) (N.here numbers.now) slots.now reads_too (c.exp to) (selector s.now)) }
+    s: &'a Selector,
+    to: Boxed<Expression>,
+) -> Result<Assignable<'a>, NoMemory>
+    ensures { IfOk result (λ x. assignable_of x ≡ num.named_by (N.tree numbers.now) (N.site_of numbers.now) (N.here numbers.now) slots.now (c.exp to) (selector s.now)) }
 {
     match s {
-        Selector::Member(name) => member_spot(alloc, numbers, reads_too, to, name.span),
-        Selector::Invoke(_, _) => Ok(Spot::Local(0)),
+        Selector::Member(name) => Ok(Assignable::Member(to, name.span)),
+        Selector::Invoke(_, _) => Ok(Assignable::Local(0)),
         Selector::Index(at, index) => {
-            let index = expression(alloc, numbers, slots, index)?;
-            element_spot(alloc, numbers, reads_too, to, index, *at)
+            let index = boxed(alloc, numbers, slots, index)?;
+            Ok(Assignable::Element(to, index, *at))
         }
     }
 }

@@ -1,11 +1,11 @@
 //! Numbers the bodies of a tree: variables by their slots, static targets and call sites by their numbers.
 #![tactic(auto)]
 
+mod assignable;
 mod bodies;
 mod exprs;
 mod meant;
 mod numbers;
-mod operators;
 mod pieces;
 mod slots;
 mod stmts;

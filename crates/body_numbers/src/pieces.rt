@@ -1,24 +1,22 @@
 //! The parts of expressions that hold no others of the tree: calls, names, and sites.
 
-ghost use Rattle.std.specs.Prelude.{◌≡◌, List, [], IfOk, not};
-ghost use Rattle.std.specs.Option.{option_map};
+ghost use Rattle.std.specs.Prelude.{◌≡◌, ◌∷◌, [], IfOk, None};
 ghost use Rattle.dart_syntax.specs.Syntax as tree;
 ghost use Rattle.program.specs.declared.literal.Literal.TheVariants as literal;
 ghost use Rattle.program.specs.Bodies as c;
-ghost use Rattle.dart_syntax.specs.Bytes.{Text};
-ghost use Rattle.program.specs.Sound as sound;
 ghost use Rattle.dart_meaning.specs.Operators as by;
 ghost use Rattle.dart_meaning.specs.Numbering as num;
-ghost use Rattle.body_numbers.specs.Views.{exps_of, spot_of};
+ghost use Rattle.body_numbers.specs.Views.{exps_of, calls_of, assignable_of};
 
+use crate::assignable::{Assignable, operator_call};
 use crate::meant::{Meant, meaning_of};
 use crate::numbers::Numbers;
-use crate::operators::{compound, is_lazy};
 use crate::slots::Slots;
+use dart_meaning::operators::operator_of;
 use dart_syntax::token::{Span, Units};
-use dart_syntax::tree::{Assignment, Name, Unary};
+use dart_syntax::tree::{Binary, Name, Unary};
 use ds_base::NoMemory;
-use program::{Binary, Compound, Expression, Literal, SelectorKind, SiteId, Spot};
+use program::{Expression, Joint, Literal, SiteCall};
 use sqlite_items::{Boxed, Items};
 use std::alloc::Global;
 
@@ -43,18 +41,57 @@ pub fn string(alloc: Global, units: &Units) -> Result<Expression, NoMemory>
     Ok(Expression::Constant(Literal::Str(units_of(alloc, units)?)))
 }
 
-/// A call or a read through a site.
-pub fn send<N: Numbers>(
+/// A call or a read through a site, of what stands before it.
+pub fn site_call<N: Numbers>(
+    numbers: &N,
+    at: Span,
+    arguments: Items<Expression>,
+) -> SiteCall<Expression>
+    ensures { calls_of (result ∷ []) ≡ c.call (num.site (N.tree numbers.now) (N.site_of numbers.now) (N.here numbers.now) at) (exps_of arguments) c.no_call }
+{
+    SiteCall {
+        site: numbers.site(at),
+        arguments,
+    }
+}
+
+/// One call or read, on this receiver.
+pub fn one_call<N: Numbers>(
     alloc: Global,
     numbers: &N,
     at: Span,
-    to: Expression,
+    to: Boxed<Expression>,
     args: Items<Expression>,
 ) -> Result<Expression, NoMemory>
-    ensures { IfOk result (λ x. c.exp x ≡ c.send (num.site (N.tree numbers.now) (N.site_of numbers.now) (N.here numbers.now) at) (c.exp to) (exps_of args)) }
+    ensures { IfOk result (λ x. c.exp x ≡ num.one_call (N.tree numbers.now) (N.site_of numbers.now) (N.here numbers.now) at (c.exp to) (exps_of args)) }
 {
-    let to = Boxed::new(alloc, to)?;
-    Ok(Expression::Send(numbers.site(at), to, args))
+    let mut calls = room_for(alloc, 1)?;
+    calls.push(site_call(numbers, at, args))?;
+    Ok(Expression::Postfix(to, calls))
+}
+
+/// A call or a read of a member of `this`.
+fn call_this<N: Numbers>(
+    alloc: Global,
+    numbers: &N,
+    at: Span,
+    args: Items<Expression>,
+) -> Result<Expression, NoMemory>
+    ensures { IfOk result (λ x. c.exp x ≡ num.one_call (N.tree numbers.now) (N.site_of numbers.now) (N.here numbers.now) at c.this (exps_of args)) }
+{
+    let this = Boxed::new(alloc, Expression::This)?;
+    one_call(alloc, numbers, at, this, args)
+}
+
+/// Calls on a receiver, as the receiver of what is behind them.
+pub fn postfix(
+    alloc: Global,
+    to: Boxed<Expression>,
+    calls: Items<SiteCall<Expression>>,
+) -> Result<Boxed<Expression>, NoMemory>
+    ensures { IfOk result (λ x. c.exp x ≡ c.postfix (c.exp to) (calls_of calls)) }
+{
+    Ok(Boxed::new(alloc, Expression::Postfix(to, calls))?)
 }
 
 /// A bare name that is read.
@@ -69,120 +106,58 @@ pub fn bare<N: Numbers>(
     match meaning_of(numbers, slots, name.text.as_slice()) {
         Meant::Slot(slot) => Ok(Expression::Local(slot)),
         Meant::Variable(place) => Ok(Expression::Global(place)),
-        Meant::Member => send(
-            alloc,
-            numbers,
-            name.span,
-            Expression::This,
-            Items::new(alloc),
-        ),
+        Meant::Member => call_this(alloc, numbers, name.span, Items::new(alloc)),
     }
-}
-
-/// The site of the read, where one is wanted too.
-pub fn read_site<N: Numbers>(numbers: &N, reads_too: bool, at: Span) -> Option<SiteId>
-    ensures { option_map (λ k. k.0) result ≡ num.if_reads (N.tree numbers.now) (N.site_of numbers.now) (N.here numbers.now) reads_too (num.site (N.tree numbers.now) (N.site_of numbers.now) (N.here numbers.now) at) }
-{
-    if reads_too {
-        Some(numbers.site(at))
-    } else {
-        None
-    }
-}
-
-/// `&&` and `||` have no site.
-pub fn link_site<N: Numbers>(numbers: &N, op: Binary, at: Span) -> Option<SiteId>
-    ensures { option_map (λ k. k.0) result ≡ num.if_reads (N.tree numbers.now) (N.site_of numbers.now) (N.here numbers.now) (not (sound.is_lazy op)) (num.site (N.tree numbers.now) (N.site_of numbers.now) (N.here numbers.now) at) }
-{
-    read_site(numbers, !is_lazy(op), at)
-}
-
-/// An operator that reads, and its site.
-pub fn operating<N: Numbers>(numbers: &N, operator: Binary, at: Span) -> Compound
-    ensures { result ≡ num.operating (N.tree numbers.now) (N.site_of numbers.now) (N.here numbers.now) operator at }
-{
-    Compound {
-        operator,
-        site: numbers.site(at),
-    }
-}
-
-/// An assignment, with an operator and its site where it is compound.
-pub fn assignment<N: Numbers>(
-    numbers: &N,
-    to: Spot<Boxed<Expression>>,
-    op: Assignment,
-    at: Span,
-    value: Boxed<Expression>,
-) -> Expression
-    ensures { c.exp result ≡ c.assign (spot_of to) (option_map (λ o. num.operating (N.tree numbers.now) (N.site_of numbers.now) (N.here numbers.now) o at) (by.compound op)) (c.exp value) }
-{
-    match compound(op) {
-        None => Expression::Assign(to, None, value),
-        Some(operator) => Expression::Assign(to, Some(operating(numbers, operator, at)), value),
-    }
-}
-
-/// A member that is assigned to.
-pub fn member_spot<N: Numbers>(
-    alloc: Global,
-    numbers: &N,
-    reads_too: bool,
-    to: Expression,
-    at: Span,
-) -> Result<Spot<Boxed<Expression>>, NoMemory>
-    ensures { IfOk result (λ x. spot_of x ≡ c.member_spot (c.exp to) (num.if_reads (N.tree numbers.now) (N.site_of numbers.now) (N.here numbers.now) reads_too (num.site (N.tree numbers.now) (N.site_of numbers.now) (N.here numbers.now) at)) (num.writing_site (N.tree numbers.now) (N.site_of numbers.now) (N.here numbers.now) at)) }
-{
-    let to = Boxed::new(alloc, to)?;
-    let read = read_site(numbers, reads_too, at);
-    Ok(Spot::Member(to, read, numbers.writing_site(at)))
-}
-
-/// An element that is assigned to.
-pub fn element_spot<N: Numbers>(
-    alloc: Global,
-    numbers: &N,
-    reads_too: bool,
-    to: Expression,
-    index: Expression,
-    at: Span,
-) -> Result<Spot<Boxed<Expression>>, NoMemory>
-    ensures { IfOk result (λ x. spot_of x ≡ c.element_spot (c.exp to) (c.exp index) (num.if_reads (N.tree numbers.now) (N.site_of numbers.now) (N.here numbers.now) reads_too (num.site (N.tree numbers.now) (N.site_of numbers.now) (N.here numbers.now) at)) (num.writing_site (N.tree numbers.now) (N.site_of numbers.now) (N.here numbers.now) at)) }
-{
-    let to = Boxed::new(alloc, to)?;
-    let index = Boxed::new(alloc, index)?;
-    let read = read_site(numbers, reads_too, at);
-    Ok(Spot::Element(to, index, read, numbers.writing_site(at)))
 }
 
 /// A bare name that is assigned to.
-pub fn bare_spot<N: Numbers>(
+pub fn bare_assignable<'a, N: Numbers>(
     alloc: Global,
     numbers: &N,
     slots: &Slots,
-    reads_too: bool,
-    name: &Name,
-) -> Result<Spot<Boxed<Expression>>, NoMemory>
-    ensures { IfOk result (λ x. spot_of x ≡ num.spot (N.tree numbers.now) (N.site_of numbers.now) (N.here numbers.now) slots.now reads_too (tree.bare name.now)) }
+    name: &'a Name,
+) -> Result<Assignable<'a>, NoMemory>
+    ensures { IfOk result (λ x. assignable_of x ≡ num.assignable (N.tree numbers.now) (N.site_of numbers.now) (N.here numbers.now) slots.now (tree.bare name.now)) }
 {
     match meaning_of(numbers, slots, name.text.as_slice()) {
-        Meant::Slot(slot) => Ok(Spot::Local(slot)),
-        Meant::Variable(place) => Ok(Spot::Global(place)),
-        Meant::Member => member_spot(alloc, numbers, reads_too, Expression::This, name.span),
+        Meant::Slot(slot) => Ok(Assignable::Local(slot)),
+        Meant::Variable(place) => Ok(Assignable::Global(place)),
+        Meant::Member => {
+            let this = Boxed::new(alloc, Expression::This)?;
+            Ok(Assignable::Member(this, name.span))
+        }
     }
 }
 
-/// A member of the superclass that is assigned to.
-pub fn super_spot<N: Numbers>(numbers: &N, reads_too: bool, name: &Name) -> Spot<Boxed<Expression>>
-    ensures { (names : List Text) (at : _) → spot_of result ≡ num.spot (N.tree numbers.now) (N.site_of numbers.now) (N.here numbers.now) names reads_too (tree.super_get at name.now) }
+/// `&&` and `||` call nothing.
+fn lazy_joint(sign: Binary) -> Joint
+    ensures { (site : _) → result ≡ by.joint_by sign None site }
 {
-    let text = name.text.as_slice();
-    let setter = numbers.super_number(SelectorKind::Set, text);
-    if reads_too {
-        Spot::Above(Some(numbers.super_number(SelectorKind::Get, text)), setter)
-    } else {
-        Spot::Above(None, setter)
+    match sign {
+        Binary::Or => Joint::Or,
+        _ => Joint::And,
     }
+}
+
+/// A sign between two operands.
+pub fn joint_of<N: Numbers>(numbers: &N, sign: Binary, at: Span) -> Joint
+    ensures { result ≡ by.joint_of sign (num.site (N.tree numbers.now) (N.site_of numbers.now) (N.here numbers.now) at) }
+{
+    match operator_of(sign) {
+        Some(operator) => Joint::Operator(operator_call(numbers, operator, at)),
+        None => lazy_joint(sign),
+    }
+}
+
+/// What `print` prints, which is its one argument.
+fn printed(alloc: Global, args: Items<Expression>) -> Result<Boxed<Expression>, NoMemory>
+    ensures { IfOk result (λ x. c.exp x ≡ num.printed (exps_of args)) }
+{
+    let mut args = args;
+    if args.is_empty() {
+        return Ok(Boxed::new(alloc, Expression::Constant(Literal::Null))?);
+    }
+    Ok(Boxed::new(alloc, args.remove(0))?)
 }
 
 /// A call of a function, of `print`, of a constructor, or of a member of `this`.
@@ -196,18 +171,19 @@ pub fn call<N: Numbers>(
 {
     let text = name.text.as_slice();
     if numbers.class_declares(text) {
-        return send(alloc, numbers, name.span, Expression::This, args);
+        return call_this(alloc, numbers, name.span, args);
     }
     if let Some(function) = numbers.function_number(text) {
-        return Ok(Expression::Function(function, args));
+        return Ok(Expression::CallFunction(function, args));
     }
     if numbers.is_constructed(text) {
-        return Ok(Expression::Make(numbers.class_number(text), args));
+        return Ok(Expression::New(numbers.class_number(text), args));
     }
     if text == b"print".as_slice() {
-        return Ok(Expression::Print(args));
+        let value = printed(alloc, args)?;
+        return Ok(Expression::Print(value));
     }
-    send(alloc, numbers, name.span, Expression::This, args)
+    call_this(alloc, numbers, name.span, args)
 }
 
 /// A sign before an operand that is no number behind a minus.
@@ -216,12 +192,13 @@ pub fn prefixed<N: Numbers>(
     numbers: &N,
     op: Unary,
     at: Span,
-    operand: Expression,
+    operand: Boxed<Expression>,
 ) -> Result<Expression, NoMemory>
     ensures { IfOk result (λ x. c.exp x ≡ num.prefixed (N.tree numbers.now) (N.site_of numbers.now) (N.here numbers.now) op at (c.exp operand)) }
 {
     match op {
-        Unary::Minus | Unary::Complement => send(alloc, numbers, at, operand, Items::new(alloc)),
-        Unary::Not => Ok(Expression::Deny(Boxed::new(alloc, operand)?)),
+        Unary::Minus | Unary::Complement =>
+            one_call(alloc, numbers, at, operand, Items::new(alloc)),
+        Unary::Not => Ok(Expression::Not(operand)),
     }
 }

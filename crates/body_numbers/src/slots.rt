@@ -3,7 +3,7 @@
 ghost use Rattle.std.specs.Prelude.{◌≡◌, ◌-◌, ◌∷◌, [], Some, OnOk, OnErr, IfOk, length, drop, map};
 ghost use Rattle.dart_syntax.specs.View.{param};
 ghost use Rattle.body_numbers.specs.Maps.{in_map, with_meaning};
-ghost use Rattle.dart_meaning.specs.Numbering.{param_names, body_names};
+ghost use Rattle.dart_meaning.specs.Numbering.{param_names, body_name, body_names};
 ghost use Rattle.body_numbers.specs.Open.{slots};
 
 use dart_syntax::tree::Param;
@@ -142,15 +142,24 @@ pub fn with_params<'a>(alloc: Global, params: &'a [Param]) -> Result<Slots<'a>, 
     Ok(slots)
 }
 
-/// The same for the body of a constructor, where a parameter `this.x` is none.
-pub fn with_plain_params<'a>(alloc: Global, params: &'a [Param]) -> Result<Slots<'a>, NoMemory>
+/// The name of a parameter in a constructor's body, where a `this.x` has none, since x means the field.
+fn body_name(x: &Param) -> &[u8]
+    ensures { result.now ≡ body_name (param x.now) }
+{
+    if x.is_field {
+        b""
+    } else {
+        x.name.text.as_slice()
+    }
+}
+
+/// The same for the body of a constructor.
+pub fn with_body_params<'a>(alloc: Global, params: &'a [Param]) -> Result<Slots<'a>, NoMemory>
     ensures { IfOk result (λ names. names ≡ body_names (map param params.now)) }
 {
     let mut slots = Slots::new(alloc);
     for x in params {
-        if !x.is_field {
-            slots.open(x.name.text.as_slice())?;
-        }
+        slots.open(body_name(x))?;
     }
     Ok(slots)
 }

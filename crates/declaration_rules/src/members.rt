@@ -10,9 +10,9 @@ ghost use Rattle.declaration_rules.specs.Claims.{claimed};
 ghost use Rattle.static_rules.specs.DuplicateName.{read_name, written_name, constructor_name, has_class_name, in_some, in_body, in_block, in_member, in_class};
 
 use crate::duplicates::{repeated_in_block, repeated_in_body, repeated_param};
-use crate::operators::operator_name;
 use crate::places::{earlier_of, place_if};
 use crate::repeats::{Named, as_named, note_name};
+use dart_meaning::operators::operator_name;
 use dart_syntax::token::Span;
 use dart_syntax::tree::{Body, ClassDecl, Member, Name, Stmt};
 use sqlite_items::Items;

@@ -9,8 +9,10 @@ ghost use Rattle.name_uses.specs.Undo.{meaning};
 use crate::list::{Use, Uses};
 use crate::scope::Scope;
 use dart_meaning::Seen;
+use dart_meaning::operators::{compound, operator_of, step_operator};
 use dart_syntax::token::Span;
-use dart_syntax::tree::{Assignment, Binary, Expr, Link, Name, Piece, Selector, Step, Unary};
+use dart_syntax::tree::{Expr, Link, Name, Piece, Selector, Unary};
+use program::BinaryOperator;
 use std::alloc::AllocError;
 
 fn is_number(x: &Expr) -> bool
@@ -35,45 +37,8 @@ fn prefix_use<'a>(out: &mut Uses<'a>, op: Unary, at: Span, x: &Expr) -> Result<(
     }
 }
 
-fn link_use<'a>(out: &mut Uses<'a>, op: Binary, at: Span) -> Result<(), AllocError>
-    ensures { OnOk result (out.new ≡ out.old ++ u.link_use op at) }
-{
-    match op {
-        Binary::And | Binary::Or => Ok(()),
-        _ => out.push(Use::Operates(op, at)),
-    }
-}
-
-/// The operator that a compound assignment calls.
-fn operator_of(op: Assignment) -> Option<Binary>
-    ensures { result ≡ u.operator_of op }
-{
-    match op {
-        Assignment::Plain => None,
-        Assignment::Add => Some(Binary::Add),
-        Assignment::Subtract => Some(Binary::Subtract),
-        Assignment::Multiply => Some(Binary::Multiply),
-        Assignment::Divide => Some(Binary::Divide),
-        Assignment::Remainder => Some(Binary::Remainder),
-        Assignment::BitAnd => Some(Binary::BitAnd),
-        Assignment::BitOr => Some(Binary::BitOr),
-        Assignment::BitXor => Some(Binary::BitXor),
-        Assignment::ShiftLeft => Some(Binary::ShiftLeft),
-        Assignment::ShiftRight => Some(Binary::ShiftRight),
-        Assignment::ShiftUnsigned => Some(Binary::ShiftUnsigned),
-    }
-}
-
-fn step_operator(step: Step) -> Binary
-    ensures { result ≡ u.step_operator step }
-{
-    match step {
-        Step::Increment => Binary::Add,
-        Step::Decrement => Binary::Subtract,
-    }
-}
-
-fn operator_use<'a>(out: &mut Uses<'a>, op: Option<Binary>, at: Span) -> Result<(), AllocError>
+/// The operator that is called, if any.
+fn operator_use<'a>(out: &mut Uses<'a>, op: Option<BinaryOperator>, at: Span) -> Result<(), AllocError>
     ensures { OnOk result (out.new ≡ out.old ++ u.operator_use op at) }
 {
     match op {
@@ -189,7 +154,7 @@ pub fn uses_of<'a>(
             uses_of(out, scope, z.get())
         }
         Expr::Assign(to, op, at, x) => {
-            let op = operator_of(*op);
+            let op = compound(*op);
             uses_of_target(out, scope, op.is_some(), to.get())?;
             operator_use(out, op, *at)?;
             uses_of(out, scope, x.get())
@@ -240,7 +205,7 @@ fn uses_of_links<'a>(
     ensures { OnOk result (out.new ≡ out.old ++ u.links (meaning scope.now) (links (map link all.now))) }
 {
     for link in all {
-        link_use(out, link.operator, link.span)?;
+        operator_use(out, operator_of(link.operator), link.span)?;
         uses_of(out, scope, &link.operand)?;
     }
     Ok(())

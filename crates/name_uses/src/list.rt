@@ -5,7 +5,8 @@ ghost use Rattle.name_uses.specs.Using.{used};
 
 use dart_meaning::Seen;
 use dart_syntax::token::Span;
-use dart_syntax::tree::{Binary, Name, Unary};
+use dart_syntax::tree::{Name, Unary};
+use program::BinaryOperator;
 use std::alloc::{AllocError, Global};
 use std::marker::Model;
 
@@ -24,7 +25,7 @@ pub enum Use<'a> {
     MemberCalls(&'a Name, usize),
     IndexReads(Span),
     IndexWrites(Span),
-    Operates(Binary, Span),
+    Operates(BinaryOperator, Span),
     Prefixes(Unary, Span),
     /// An interpolation.
     Shows(Span),

@@ -2,34 +2,32 @@
 
 ghost use Rattle.std.specs.Prelude.{◌≡◌};
 ghost use Rattle.program.specs.Sound.{binary_name};
-ghost use Rattle.dart_meaning.specs.Operators.{operator_of};
 ghost use Rattle.dart_meaning.specs.Sites.{prefix_name};
 
-use dart_syntax::tree::{Binary, Unary};
+use dart_syntax::tree::Unary;
+use program::BinaryOperator;
 
 /// The name of the member that an operator between two operands calls.
-pub fn binary_name(op: Binary) -> &'static [u8]
-    ensures { result.now ≡ binary_name (operator_of op) }
+pub fn binary_name(op: BinaryOperator) -> &'static [u8]
+    ensures { result.now ≡ binary_name op }
 {
     match op {
-        Binary::Or => b"||",
-        Binary::And => b"&&",
-        Binary::Equal | Binary::NotEqual => b"==",
-        Binary::Less => b"<",
-        Binary::LessEqual => b"<=",
-        Binary::Greater => b">",
-        Binary::GreaterEqual => b">=",
-        Binary::BitOr => b"|",
-        Binary::BitXor => b"^",
-        Binary::BitAnd => b"&",
-        Binary::ShiftLeft => b"<<",
-        Binary::ShiftRight => b">>",
-        Binary::ShiftUnsigned => b">>>",
-        Binary::Add => b"+",
-        Binary::Subtract => b"-",
-        Binary::Multiply => b"*",
-        Binary::Divide => b"~/",
-        Binary::Remainder => b"%",
+        BinaryOperator::Equal | BinaryOperator::NotEqual => b"==",
+        BinaryOperator::Less => b"<",
+        BinaryOperator::LessEqual => b"<=",
+        BinaryOperator::Greater => b">",
+        BinaryOperator::GreaterEqual => b">=",
+        BinaryOperator::BitOr => b"|",
+        BinaryOperator::BitXor => b"^",
+        BinaryOperator::BitAnd => b"&",
+        BinaryOperator::ShiftLeft => b"<<",
+        BinaryOperator::ShiftRight => b">>",
+        BinaryOperator::ShiftUnsigned => b">>>",
+        BinaryOperator::Add => b"+",
+        BinaryOperator::Subtract => b"-",
+        BinaryOperator::Multiply => b"*",
+        BinaryOperator::Divide => b"~/",
+        BinaryOperator::Remainder => b"%",
     }
 }
 

@@ -8,8 +8,8 @@ ghost use Rattle.text_names.specs.Maps.{in_map, nothing_known};
 ghost use Rattle.text_names.specs.Reached.{fixed, reaching, reached_of, of_field, reached, with_reached, also_reached, params_in, constructor_params};
 
 use crate::known::{keep_first, nothing_known};
+use dart_meaning::operators::operator_name;
 use dart_syntax::tree::{Local, Member, Param};
-use declaration_rules::operator_name;
 use program::SelectorKind;
 use std::alloc::{AllocError, Global};
 use std::collections::HashMap;

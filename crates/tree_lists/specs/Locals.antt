@@ -6,7 +6,8 @@ use Rattle.std.specs.Prelude.{ℕ, if◌then◌else◌, List, Option, None, Some
 use Rattle.dart_syntax.specs.Syntax.{Function, Local, Tree, Param, Passed, Stas}
 use Rattle.dart_syntax.specs.View.{function, local}
 use Rattle.dart_values.specs.Values.{Text, Value}
-use Rattle.dart_meaning.specs.Classes.{literal_or_null, field_place, Constructor}
+use Rattle.dart_meaning.specs.Literals.{literal_or_null}
+use Rattle.dart_meaning.specs.Classes.{field_place, Constructor}
 use Rattle.body_numbers.specs.Bodies.{passed_args, block_or_none}
 use Rattle.dart_meaning.specs.Forms.{FieldForm}
 

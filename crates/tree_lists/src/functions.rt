@@ -39,12 +39,15 @@ fn function<'a, S: SiteNumbers>(
     ensures { IfOk result (λ k. function_form k ≡ numbered_function (view.unit inside.now.numbers.now.tree.now) (view.function f.now)) }
 {
     let params = f.params.as_slice();
+    let name = Items::from_slice(alloc, f.name.text.as_slice())?;
+    let required = required(params)?;
+    let defaults = defaults(alloc, params)?;
     let body = body_of(alloc, inside, params, &f.body)?;
     Ok(Function {
-        name: Items::from_slice(alloc, f.name.text.as_slice())?,
+        name,
         is_entry: f.is_entry,
-        required: required(params)?,
-        defaults: defaults(alloc, params)?,
+        required,
+        defaults,
         body,
     })
 }

@@ -10,7 +10,6 @@ mod inside;
 mod lists;
 mod literals;
 mod methods;
-mod operators;
 mod params;
 
 pub use inside::{Inside, SiteNumbers};

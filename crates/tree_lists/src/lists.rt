@@ -5,7 +5,7 @@ ghost use Rattle.dart_syntax.specs.View as view;
 ghost use Rattle.program.specs.BuiltIn.{built_in_members};
 ghost use Rattle.dart_meaning.specs.Classes as c;
 ghost use Rattle.dart_meaning.specs.Entry.{globals_of};
-ghost use Rattle.dart_meaning.specs.Numbered.{literal};
+ghost use Rattle.dart_meaning.specs.Literals.{literal};
 ghost use Rattle.dart_meaning.specs.Forms.{class_form, method_form, function_form};
 ghost use Rattle.dart_meaning.specs.NumberedForm.{numbered_class, numbered_function};
 ghost use Rattle.tree_numbers.specs.ClassFacts.{knows};

@@ -10,8 +10,8 @@ ghost use Rattle.tree_lists.specs.Methods.{field_methods, methods_of};
 
 use crate::bodies::body_of;
 use crate::inside::{Inside, SiteNumbers};
-use crate::operators::operator_name;
 use crate::params::{defaults, required};
+use dart_meaning::operators::operator_name;
 use dart_syntax::tree;
 use dart_syntax::tree::{ClassDecl, Local, Member, Param};
 use ds_base::NoMemory;
@@ -26,20 +26,20 @@ fn accessor(
     numbers: &TreeNumbers,
     class: &[u8],
     role: SelectorKind,
-    name: &[u8],
+    name: Items<u8>,
     count: u32,
     body: MethodBody,
-) -> Result<Method, NoMemory>
-    ensures { IfOk result (λ m. method_form m ≡ method (view.unit numbers.now.tree.now) class.now role name.now count [] (does_form body)) }
+) -> Method
+    ensures { method_form result ≡ method (view.unit numbers.now.tree.now) class.now role name count [] (does_form body) }
 {
-    Ok(Method {
+    Method {
         owner: numbers.class_number(class),
-        name: Items::from_slice(alloc, name)?,
+        name,
         role,
         required: count,
         defaults: Items::new(alloc),
         body,
-    })
+    }
 }
 
 /// A field gives its getter and then, unless it is final, its setter.
@@ -56,11 +56,13 @@ fn add_field(
 {
     let name = l.name.text.as_slice();
     let place = numbers.field_place(class, above, name)?;
+    let getter = Items::from_slice(alloc, name)?;
     let reads = MethodBody::ReadField(place);
-    all.push(accessor(alloc, numbers, class, SelectorKind::Get, name, 0, reads)?)?;
+    all.push(accessor(alloc, numbers, class, SelectorKind::Get, getter, 0, reads))?;
     if !l.is_final {
+        let setter = Items::from_slice(alloc, name)?;
         let writes = MethodBody::WriteField(place);
-        all.push(accessor(alloc, numbers, class, SelectorKind::Set, name, 1, writes)?)?;
+        all.push(accessor(alloc, numbers, class, SelectorKind::Set, setter, 1, writes))?;
     }
     Ok(())
 }
@@ -79,13 +81,17 @@ fn coded<'a, S: SiteNumbers>(
     requires here { option_map text_of inside.now.here ≡ Some class.now }
     ensures { IfOk result (λ m. method_form m ∷ [] ≡ with_body (view.unit inside.now.numbers.now.tree.now) class.now role name.now (map view.param params.now) (Some (view.body body.now))) }
 {
+    let owner = inside.numbers.class_number(class);
+    let name = Items::from_slice(alloc, name)?;
+    let required = required(params)?;
+    let defaults = defaults(alloc, params)?;
     let code = body_of(alloc, inside, params, body)?;
     Ok(Method {
-        owner: inside.numbers.class_number(class),
-        name: Items::from_slice(alloc, name)?,
+        owner,
+        name,
         role,
-        required: required(params)?,
-        defaults: defaults(alloc, params)?,
+        required,
+        defaults,
         body: MethodBody::Code(code),
     })
 }

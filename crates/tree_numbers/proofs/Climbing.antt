@@ -11,7 +11,7 @@ use Rattle.program.specs.declared.numbered.SelectorKind.{SelectorKind}
 use Rattle.program.specs.declared.numbered.SelectorKind.TheVariants.{Call, Get, Set}
 use Rattle.program.specs.BuiltIn.{built_in_members}
 use Rattle.program.specs.Lookup.{declared, is_declared_by}
-use Rattle.dart_meaning.specs.Classes.{classes, class_named, parent, parent_of, chain_from, chain_above, own_fields, field_of, own, in_class, built_in_names, built_in_taking, field_place}
+use Rattle.dart_meaning.specs.Classes.{classes, class_named, parent, parent_of, chain_from, chain_above, own_fields, declared_fields, field_of, own, in_class, built_in_names, built_in_taking, field_place}
 use Rattle.tree_numbers.specs.Maps.{Known}
 use Rattle.tree_numbers.specs.ClassFacts.{Facts, facts}
 use Rattle.tree_numbers.specs.Order.{above_in}
@@ -83,7 +83,7 @@ pub length-mapped : {A B : Type 0} (f : A → B) (xs : List A) → length (map f
 length-mapped f [] = refl
 length-mapped f (x ∷ xs) = ap (λ n. suc n) (length-mapped f xs)
 
-own_count : (o : Option ClassDecl) → field_count (option_map facts o) ≡ length (unwrap_or (option_map (λ (c : ClassDecl). filter_map field_of c.members) o) [])
+own_count : (o : Option ClassDecl) → field_count (option_map facts o) ≡ length (declared_fields o)
 own_count None = refl
 own_count (Some c) = ap length (names_are (λ (f : Local). f.name.text) field_of c.members) ∙ length-mapped (λ (f : Local). f.name.text) (filter_map field_of c.members)
 

@@ -1,7 +1,6 @@
 -- What the maps of a tree tell is what the tree has.
 use Rattle.std.proofs.Common.{◌≡◌, ℕ, suc, ◌+◌, false, ◌||◌, ◌&&◌, not, List, [], ◌++◌, map, length, is_some, option_map, Option, None, Some, refl, ◌∙◌, ap, unwrap_or, bytes_eq, arith}
 use Rattle.std.specs.Prelude.{flat_map, filter_map, find, position, slice_index_or, reverse}
-use Rattle.std.specs.List.{list_any}
 use Rattle.std.proofs.Math.Logic.{∥∥₁_elim}
 use Rattle.std.proofs.Props.{props}
 use Rattle.dart_syntax.specs.Syntax.{Tree, ClassDecl, Function, Local, Top}
@@ -9,7 +8,7 @@ use Rattle.dart_syntax.specs.Bytes.{Text}
 use Rattle.program.specs.declared.numbered.Method.{Method}
 use Rattle.program.specs.declared.numbered.SelectorKind.{SelectorKind}
 use Rattle.program.specs.BuiltIn.{built_in_members}
-use Rattle.dart_meaning.specs.Classes.{object, classes, function_at, variable_at, class_named, class_names, class_number, built_in_names, parent, children, preorder, own, own_fields, fields_above, chain_above, field_of, is_member, class_declares, is_constructed, variable_place}
+use Rattle.dart_meaning.specs.Classes.{object, classes, function_at, variable_at, class_named, class_names, class_number, built_in_names, parent, children, preorder, own, own_fields, declared_fields, fields_above, chain_above, field_of, is_own_member, class_declares, is_constructed, variable_place}
 use Rattle.dart_meaning.specs.Numbering.{Key, key, same_key, all_keys, member_keys, built_in_key, member_number, function_number}
 use Rattle.tree_numbers.specs.Maps.{Known, nothing_known}
 use Rattle.tree_numbers.specs.Parts.{function_name, variable_name}
@@ -81,7 +80,7 @@ module _ (tree : Tree) (ts : List Top) (cs : List ClassDecl) (all_tops : ts ≡ 
 
 declares_are : (tree : Tree) (here : Option Text) (q : Text) → declares_in (known_of tree) here q ≡ class_declares tree here q
 declares_are tree None q = refl
-declares_are tree (Some h) q = elim (class_named tree h) as (λ o. has_name (option_map facts o) q ≡ list_any (is_member q) (unwrap_or (option_map (λ (c : ClassDecl). c.members) o) [])) [
+declares_are tree (Some h) q = elim (class_named tree h) as (λ o. has_name (option_map facts o) q ≡ is_own_member o q) [
   | None ↦ refl
   | Some c ↦ kept.members_are q c.members
 ]
@@ -90,7 +89,7 @@ made_are : (q : Text) (o : Option ClassDecl) → (bytes_eq q object || is_made (
 made_are q None = refl
 made_are q (Some c) = refl
 
-places_are : (o : Option ClassDecl) (q : Text) → own_place (option_map facts o) q ≡ unwrap_or (position (λ (f : Local). bytes_eq f.name.text q) (unwrap_or (option_map (λ (c : ClassDecl). filter_map field_of c.members) o) [])) 0
+places_are : (o : Option ClassDecl) (q : Text) → own_place (option_map facts o) q ≡ unwrap_or (position (λ (f : Local). bytes_eq f.name.text q) (declared_fields o)) 0
 places_are None q = refl
 places_are (Some c) q = ap (λ o. unwrap_or o 0) (kept.named_places (λ (f : Local). f.name.text) field_of c.members q)
 

@@ -9,9 +9,9 @@ ghost use Rattle.tree_numbers.specs.Parts.{class_of, text_of};
 ghost use Rattle.tree_numbers.specs.ClassFacts.{named, also_named, is_field_for, owned, also_owned, facts, facts_of, knows, also_classes};
 
 use crate::known::{keep_first, no_names, nothing_known, put_some};
-use crate::operators::operator_name;
 use crate::parts::field_names;
 use crate::places::places_of;
+use dart_meaning::operators::operator_name;
 use dart_syntax::tree::{ClassDecl, Local, Member};
 use ds_base::NoMemory;
 use program::SelectorKind;

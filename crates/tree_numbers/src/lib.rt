@@ -4,7 +4,6 @@
 mod class_facts;
 mod known;
 mod members;
-mod operators;
 mod order;
 mod parts;
 mod places;

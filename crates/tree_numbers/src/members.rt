@@ -6,8 +6,8 @@ ghost use Rattle.dart_meaning.specs.Numbering as num;
 ghost use Rattle.tree_numbers.specs.Parts.{class_of};
 ghost use Rattle.tree_numbers.specs.Members.{key_of, keys_of, keys_in, field_keys, key_if, built_in_key, in_pairs, with_pair, no_pairs, held, no_members, with_key, also_keyed};
 
-use crate::operators::operator_name;
 use crate::places::short;
+use dart_meaning::operators::operator_name;
 use dart_syntax::tree::{ClassDecl, Local, Member};
 use ds_base::NoMemory;
 use program::{Method, SelectorKind};

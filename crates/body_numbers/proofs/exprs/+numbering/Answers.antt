@@ -3,8 +3,9 @@ use Rattle.program.specs.declared.body.Expression.{Expression}
 use Rattle.program.specs.declared.body.Piece.{Piece}
 use Rattle.program.specs.declared.body.Link.{Link}
 use Rattle.program.specs.Bodies as bodies
-use Rattle.body_numbers.specs.Views.{spot_of}
-use Rattle.body_numbers.proofs.Lists.{cut, exps_next, exps_done, pieces_next, pieces_done, links_next, links_done, joined_form, chain_form, assign_form, spot_next, spot_last, super_spot_form}
+use Rattle.dart_meaning.specs.Numbering as num
+use Rattle.body_numbers.specs.Views.{assignable_of}
+use Rattle.body_numbers.proofs.Lists.{cut, exps_next, exps_done, pieces_next, pieces_done, calls_next, calls_done, links_next, links_done, joined_form, chain_form, last_next, last_here, last_none}
 use Rattle.body_numbers.proofs.exprs.+numbering.Goals as goal
 
 pub expressions-loop-e-preserved : goal.expressions-loop-e-preserved
@@ -38,8 +39,8 @@ pub operations-loop-link-preserved : goal.operations-loop-link-preserved
 operations-loop-link-preserved g t c =
     let n = c.args.numbers.now in
     let is = cut c.args.all.now c.loop-link.link-index c.link-item.result c.loop-link-test.true c.link-item.is in
-    let q : Link Expression = record { operator = c.operator_of-operator.result; site = c.link_site-site.result; operand = c.in_ok-operand.operand } in
-    let e = links_next (g.N.Numbers.tree n) (g.N.Numbers.site_of n) (g.N.Numbers.here n) c.args.slots.now c.args.all.now c.loop-link.link-index c.link-item.result c.loop-link.found q _ is (search rules) (search rules) (search rules) c.loop-link.invariant in
+    let q : Link Expression = record { joint = c.joint_of-joint.result; operand = c.in_ok-operand.operand } in
+    let e = links_next (g.N.Numbers.tree n) (g.N.Numbers.site_of n) (g.N.Numbers.here n) c.args.slots.now c.args.all.now c.loop-link.link-index c.link-item.result c.loop-link.found q _ is (search rules) (search rules) c.loop-link.invariant in
     let p : c.push.new.self ≡ c.loop-link.found ++ q ∷ [] = search rules in
     rw p e
 
@@ -58,27 +59,35 @@ expression-returns-in_ok-more-in-Chain g t c =
     let n = c.args.numbers.now in
     chain_form (g.N.Numbers.tree n) (g.N.Numbers.site_of n) (g.N.Numbers.here n) c.args.slots.now c.in-Chain.x c.get-in-Chain.result.now c.in_ok-x-in-Chain.x c.in-Chain.more c.as_slice-in-Chain.result.now c.in_ok-more-in-Chain.more c.args.e.now c.in-Chain.is (search rules) (search rules) c.in_ok-x-in-Chain.ensures c.in_ok-more-in-Chain.ensures
 
-pub expression-returns-in_ok-x-in-Assign : goal.expression-returns-in_ok-x-in-Assign
-expression-returns-in_ok-x-in-Assign g t c =
+pub selected-loop-s-preserved : goal.selected-loop-s-preserved
+selected-loop-s-preserved g t c =
     let n = c.args.numbers.now in
-    assign_form (g.N.Numbers.tree n) (g.N.Numbers.site_of n) (g.N.Numbers.here n) c.args.slots.now c.in-Assign.to _ c.in-Assign.x _ c.in-Assign.op c.in-Assign.at _ (bodies.exp c.assignment.result) (bodies.exp c.in_ok-x-in-Assign.x) (spot_of c.in_ok-to-in-Assign.to) c.args.e.now
-    c.in_ok-to-in-Assign.ensures c.in_ok-x-in-Assign.ensures c.assignment.ensures c.in-Assign.is (search rules) (search rules) (search rules)
+    let is = cut c.args.all.now c.loop-s.s-index c.s-item.result c.loop-s-test.true c.s-item.is in
+    let e = calls_next (g.N.Numbers.tree n) (g.N.Numbers.site_of n) (g.N.Numbers.here n) c.args.slots.now c.args.all.now c.loop-s.s-index c.s-item.result c.loop-s.found c.in_ok-call.call _ is c.in_ok-call.ensures c.loop-s.invariant in
+    let p : c.push.new.self ≡ c.loop-s.found ++ c.in_ok-call.call ∷ [] = search rules in
+    rw p e
 
-pub selected_spot-returns-then-i-all : goal.selected_spot-returns-then-i-all
-selected_spot-returns-then-i-all g t c =
+pub selected-returns : goal.selected-returns
+selected-returns g t c =
+    let n = c.args.numbers.now in
+    calls_done (g.N.Numbers.tree n) (g.N.Numbers.site_of n) (g.N.Numbers.here n) c.args.slots.now c.args.all.now c.loop-s.s-index c.loop-s.found _ (search (rules, arith)) c.loop-s.invariant
+
+pub last_of-loop-i-preserved : goal.last_of-loop-i-preserved
+last_of-loop-i-preserved g t c =
     let n = c.args.numbers.now in
     let is = cut c.args.all.now c.loop-i.i c.index-all-i.result c.loop-i-test.true c.index-all-i.is in
-    let e = spot_last (g.N.Numbers.tree n) (g.N.Numbers.site_of n) (g.N.Numbers.here n) c.args.slots.now c.args.reads_too c.args.all.now c.loop-i.i c.index-all-i.result (bodies.exp c.loop-i.found) _ is (search (rules, arith)) c.loop-i.invariant in
-    subst (λ (w : bodies.Spot). IfOk c.select_spot.result (λ x. spot_of x ≡ w)) e c.select_spot.ensures
+    let e = last_next (g.N.Numbers.tree n) (g.N.Numbers.site_of n) (g.N.Numbers.here n) c.args.slots.now c.args.all.now c.loop-i.i c.index-all-i.result (bodies.exp c.loop-i.to) c.loop-i.calls c.in_ok-call.call _ is (search (rules, arith)) c.in_ok-call.ensures c.loop-i.invariant in
+    let p : c.push.new.self ≡ c.loop-i.calls ++ c.in_ok-call.call ∷ [] = search rules in
+    rw p e
 
-pub selected_spot-loop-i-preserved : goal.selected_spot-loop-i-preserved
-selected_spot-loop-i-preserved g t c =
+pub last_of-returns-then-i-all : goal.last_of-returns-then-i-all
+last_of-returns-then-i-all g t c =
     let n = c.args.numbers.now in
     let is = cut c.args.all.now c.loop-i.i c.index-all-i.result c.loop-i-test.true c.index-all-i.is in
-    spot_next (g.N.Numbers.tree n) (g.N.Numbers.site_of n) (g.N.Numbers.here n) c.args.slots.now c.args.reads_too c.args.all.now c.loop-i.i c.index-all-i.result (bodies.exp c.loop-i.found) (bodies.exp c.in_ok-next.next) _ is (search (rules, arith)) c.in_ok-next.ensures c.loop-i.invariant
+    let e = last_here (g.N.Numbers.tree n) (g.N.Numbers.site_of n) (g.N.Numbers.here n) c.args.slots.now c.args.all.now c.loop-i.i c.index-all-i.result (bodies.exp c.loop-i.to) c.loop-i.calls (bodies.exp c.in_ok-to.to) _ is (search (rules, arith)) c.in_ok-to.ensures c.loop-i.invariant in
+    subst (λ (w : num.Assignable). IfOk c.named_by.result (λ x. assignable_of x ≡ w)) e c.named_by.ensures
 
-pub spot-returns-in-SuperGet : goal.spot-returns-in-SuperGet
-spot-returns-in-SuperGet g t c =
+pub last_of-returns : goal.last_of-returns
+last_of-returns g t c =
     let n = c.args.numbers.now in
-    let e = super_spot_form (g.N.Numbers.tree n) (g.N.Numbers.site_of n) (g.N.Numbers.here n) c.args.slots.now c.args.reads_too c.in-SuperGet.field-0 c.in-SuperGet.name _ c.super_spot.ensures in
-    search rules
+    last_none (g.N.Numbers.tree n) (g.N.Numbers.site_of n) (g.N.Numbers.here n) c.args.slots.now c.args.all.now c.loop-i.i (bodies.exp c.loop-i.to) _ _ (search (rules, arith)) c.loop-i.invariant

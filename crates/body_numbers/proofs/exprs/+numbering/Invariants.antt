@@ -3,8 +3,9 @@ use Rattle.dart_syntax.specs.Syntax.{exps, pieces, links, selectors}
 use Rattle.dart_syntax.specs.View.{exp, piece, link, selector}
 use Rattle.program.specs.Bodies as c
 use Rattle.dart_meaning.specs.Numbering as num
-use Rattle.body_numbers.specs.Views.{piece_of, link_of}
-use Rattle.body_numbers.proofs.Lists.{with_exps, with_pieces, with_links}
+use Rattle.body_numbers.specs.Views.{piece_of, call_of, link_of}
+use Rattle.body_numbers.specs.Assigned.{named_last}
+use Rattle.body_numbers.proofs.Lists.{with_exps, with_pieces, with_calls, with_links, left}
 use Rattle.body_numbers.proofs.exprs.+numbering.Given as goal
 
 abbrev pub invariant-expressions-loop-e : goal.invariant-expressions-loop-e
@@ -25,9 +26,9 @@ invariant-operations-loop-link g l =
 abbrev pub invariant-selected-loop-s : goal.invariant-selected-loop-s
 invariant-selected-loop-s g l =
     let rest = num.selected (g.N.Numbers.tree l.numbers) (g.N.Numbers.site_of l.numbers) (g.N.Numbers.here l.numbers) l.slots in
-    rest (c.exp l.found) (selectors (map selector (drop l.s-index l.all))) ≡ rest (c.exp l.fn.to) (selectors (map selector l.all))
+    with_calls (map call_of l.found) (rest (selectors (map selector (drop l.s-index l.all)))) ≡ rest (selectors (map selector l.all))
 
-abbrev pub invariant-selected_spot-loop-i : goal.invariant-selected_spot-loop-i
-invariant-selected_spot-loop-i g l =
-    let rest = num.selected_spot (g.N.Numbers.tree l.numbers) (g.N.Numbers.site_of l.numbers) (g.N.Numbers.here l.numbers) l.slots l.reads_too in
-    rest (c.exp l.found) (selectors (map selector (drop l.i l.all))) ≡ rest (c.exp l.fn.to) (selectors (map selector l.all))
+abbrev pub invariant-last_of-loop-i : goal.invariant-last_of-loop-i
+invariant-last_of-loop-i g l =
+    left (g.N.Numbers.tree l.numbers) (g.N.Numbers.site_of l.numbers) (g.N.Numbers.here l.numbers) l.slots (c.exp l.to) (map call_of l.calls) (drop l.i l.all)
+    ≡ named_last (g.N.Numbers.tree l.numbers) (g.N.Numbers.site_of l.numbers) (g.N.Numbers.here l.numbers) l.slots (c.exp l.fn.to) (selectors (map selector l.all))

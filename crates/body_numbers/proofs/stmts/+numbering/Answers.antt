@@ -1,6 +1,6 @@
 use Rattle.std.proofs.Common.{◌≡◌, rules, arith, ◌++◌, ◌∷◌, [], ap, ◌∙◌}
 use Rattle.dart_syntax.specs.View.{sta}
-use Rattle.body_numbers.specs.Open.{after}
+use Rattle.dart_meaning.specs.Numbering.{after}
 use Rattle.body_numbers.proofs.Lists.{cut, stas_next, stas_done}
 use Rattle.body_numbers.proofs.Opened.{grown_none, grown_twice, grown_same, grown_after, grown_back}
 use Rattle.body_numbers.proofs.stmts.+numbering.Goals as goal

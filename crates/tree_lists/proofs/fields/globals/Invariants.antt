@@ -2,7 +2,7 @@ use Rattle.std.proofs.Common.{◌≡◌, ◌++◌, drop, map}
 use Rattle.std.specs.Prelude.{filter_map}
 use Rattle.dart_syntax.specs.View.{top}
 use Rattle.dart_meaning.specs.Classes.{variable_at}
-use Rattle.dart_meaning.specs.Numbered.{literal}
+use Rattle.dart_meaning.specs.Literals.{literal}
 use Rattle.tree_lists.specs.Locals.{value_of}
 use Rattle.tree_lists.proofs.fields.globals.Given as goal
 

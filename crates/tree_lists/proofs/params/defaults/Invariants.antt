@@ -1,6 +1,6 @@
 use Rattle.std.proofs.Common.{◌≡◌, ◌++◌, drop, map}
 use Rattle.dart_syntax.specs.View.{param}
-use Rattle.dart_meaning.specs.Numbered.{literal}
+use Rattle.dart_meaning.specs.Literals.{literal}
 use Rattle.dart_meaning.specs.NumberedForm.{defaults}
 use Rattle.tree_lists.proofs.params.defaults.Given as goal
 
