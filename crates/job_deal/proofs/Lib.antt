@@ -1,0 +1,4 @@
+pub mod Counts
+pub mod Sums
+pub mod Deals
+pub mod Tells
