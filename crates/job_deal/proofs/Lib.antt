@@ -2,3 +2,4 @@ pub mod Counts
 pub mod Sums
 pub mod Deals
 pub mod Tells
+pub mod Places
