@@ -1,8 +1,8 @@
 -- How often numbers stand in lists.
-use Rattle.std.proofs.Common.{◌≡◌, ℕ, ◌+◌, ◌<◌, ◌==◌, cond, ltb, List, [], ◌∷◌, ◌++◌, arith}
+use Rattle.std.proofs.Common.{◌≡◌, ℕ, ◌+◌, ◌==◌, cond, List, ◌∷◌, ◌++◌, arith}
 use Rattle.std.proofs.lemmas.Bool.Decides.{nat_tests}
 use Rattle.std.proofs.lemmas.List.Sums.{sum_by-append, sum_by-cons}
-use Rattle.job_deal.specs.Counts.{times, once_below, those_below}
+use Rattle.job_deal.specs.Counts.{times, once_below}
 
 pub times-cons : (x y : ℕ) (ys : List ℕ) → times x (y ∷ ys) ≡ cond {A = ℕ} (y == x) 1 0 + times x ys
 times-cons x y ys = sum_by-cons (λ z. cond (z == x) 1 0) y ys

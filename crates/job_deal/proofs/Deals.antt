@@ -4,11 +4,11 @@ use mathlib.Core.Option.{none, some, some-injective, some-ne-none}
 use lib.ListN.{get_elem?}
 use lib.Seq.{set-get_or}
 use Rattle.std.proofs.lemmas.List.Sums.{sum_by_push}
-use Rattle.atomic_table.specs.Table.{State, Me, step, keeps, Allows, Splits, Joins, opening, stepped}
+use Rattle.atomic_table.specs.Table.{Me, step, keeps, Allows, Splits, Joins, opening, stepped}
 use Rattle.atomic_table.proofs.Lists.{at_set, at_snoc, set_again}
 use Rattle.view_sums.proofs.Sums.{here-set, sum-set, sum-one}
 use Rattle.job_deal.specs.declared.hand.Hand.{Hand}
-use Rattle.job_deal.specs.Counts.{times, once_below, EachOnce}
+use Rattle.job_deal.specs.Counts.{times, once_below}
 use Rattle.job_deal.specs.Dealt.{Dealt, KnowsAll, hand, share, drew, looked, whole_share}
 use Rattle.job_deal.proofs.Counts.{times-cons, times-append, once_below-more, once_below-none}
 use Rattle.job_deal.proofs.Sums.{Summed, summed, dealt, draws, times_in}

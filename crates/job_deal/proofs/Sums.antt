@@ -1,12 +1,12 @@
 -- The rule in sums over all views: what a step changes in one view is then one summand.
-use Rattle.std.proofs.Common.{◌≡◌, ℕ, ◌+◌, ◌%◌, ◌^◌, ◌<◌, List, [], ◌∷◌, ◌++◌, length, slice_index, sum_by, flat_map, sym, refl, ap, ◌∙◌, arith, length-append}
+use Rattle.std.proofs.Common.{◌≡◌, ℕ, ◌%◌, ◌^◌, ◌<◌, List, [], ◌∷◌, length, slice_index, sum_by, sym, refl, ap, ◌∙◌, arith, length-append}
 use mathlib.Core.Option.{some}
 use lib.ListN.{get_elem?}
 use Rattle.std.proofs.lemmas.List.Sums.{sum_by-cons}
 use Rattle.atomic_table.specs.Table.{State}
 use Rattle.job_deal.specs.declared.hand.Hand.{Hand}
 use Rattle.job_deal.specs.Counts.{times, once_below}
-use Rattle.job_deal.specs.Dealt.{Dealt, drawn, share, all_drawn, whole_share}
+use Rattle.job_deal.specs.Dealt.{Dealt, share, all_drawn, whole_share}
 use Rattle.job_deal.proofs.Counts.{times-append}
 
 abbrev pub draws : Hand → ℕ

@@ -1,10 +1,10 @@
 -- The rule of the counter, and what its steps tell.
-use Rattle.std.specs.Prelude.{◌≡◌, ℕ, ◌%◌, ◌^◌, ◌<◌, ◌≤◌, List, [], ◌∷◌, length, slice_index, sum_by, flat_map}
+use Rattle.std.specs.Prelude.{◌≡◌, ℕ, ◌%◌, ◌^◌, ◌<◌, List, [], ◌∷◌, length, slice_index, sum_by, flat_map}
 use mathlib.Core.Option.{some}
 use lib.ListN.{get_elem?}
 use Rattle.atomic_table.specs.Table.{State, Me, Step}
 use Rattle.job_deal.specs.declared.hand.Hand.{Hand}
-use Rattle.job_deal.specs.Counts.{times, EachOnce, those_below}
+use Rattle.job_deal.specs.Counts.{EachOnce}
 
 -- the share of the first pass, which all shares together have at any time
 abbrev pub whole_share : ℕ

@@ -23,10 +23,11 @@ pub record Draws (jobs : ℕ) (old new : JobPass) (answer : Option ℕ) : Type 0
   pub job : MatchOption answer (jobs ≤ number) (λ k. (k ≡ number) × (number < jobs))
 
 -- The numbers drawn are the first ones, each once: so no job was dealt twice.
--- Once a number was drawn that is no job's, each job was dealt once.
+-- Each job was dealt once, as soon as a number was drawn that is no job's, or as many numbers as there are jobs.
 pub record AreDealt (jobs : ℕ) (drawn : List ℕ) : Type 0 where
   pub once : EachOnce (length drawn) drawn
   pub none_left : (n : ℕ) → jobs ≤ n → 0 < times n drawn → EachOnce jobs (those_below jobs drawn)
+  pub enough : jobs ≤ length drawn → EachOnce jobs (those_below jobs drawn)
 
 -- what a pass with the whole share tells, while fewer than 2^64 numbers were drawn
 abbrev pub TellsAll : ℕ → JobPass → Type 0

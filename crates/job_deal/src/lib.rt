@@ -8,3 +8,6 @@ mod passes;
 
 pub use collecting::collect;
 pub use passes::{JobPass, JobTable};
+
+#[cfg(test)]
+mod tests;

@@ -1,4 +1,4 @@
-use Rattle.std.proofs.Common.{[], ap, sym, ◌∙◌}
+use Rattle.std.proofs.Common.{ap, sym, ◌∙◌}
 use Rattle.std.proofs.lemmas.List.{nil_from_length}
 use Rattle.job_deal.specs.Results.{results_in}
 use Rattle.job_deal.proofs.Places.{begins, part_fits, part_next, all_put, each_filled, in_place}
