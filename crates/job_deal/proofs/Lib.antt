@@ -3,3 +3,4 @@ pub mod Sums
 pub mod Deals
 pub mod Tells
 pub mod Places
+pub mod Examples

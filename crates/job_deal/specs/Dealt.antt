@@ -10,12 +10,15 @@ use Rattle.job_deal.specs.Counts.{EachOnce}
 abbrev pub whole_share : ℕ
 whole_share = 65536
 
+-- the view with this share that drew these numbers, the last one first
 abbrev pub hand : ℕ → List ℕ → Hand
 hand share drawn = record { share = share; drawn = drawn }
 
+-- the share of a view
 abbrev pub share : Hand → ℕ
 share v = v.share
 
+-- the numbers that a view has drawn
 abbrev pub drawn : Hand → List ℕ
 drawn v = v.drawn
 

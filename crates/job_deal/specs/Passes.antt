@@ -9,6 +9,7 @@ use Rattle.job_deal.specs.Dealt.{whole_share}
 abbrev pub IsPassOf : JobTable → JobPass → Type 0
 IsPassOf table pass = pass.seat.table_id ≡ table.table.shared.table_id
 
+-- the share of the pass, at least 1
 abbrev pub share_of : JobPass → ℕ
 share_of pass = pass.seat.me.0.share
 

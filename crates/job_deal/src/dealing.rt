@@ -43,7 +43,8 @@ impl JobPass {
         requires share { 2 ≤ share_of self.old }
         ensures own { IsPassOf table.now self.new × (drawn_of self.new ≡ drawn_of self.old) }
         ensures other { IsPassOf table.now result × (drawn_of result ≡ []) }
-        ensures shares { (share_of self.new ≡ share_of self.old - share_of self.old / 2) × (share_of result ≡ share_of self.old / 2) }
+        ensures share { share_of self.new ≡ share_of self.old - share_of self.old / 2 }
+        ensures half { share_of result ≡ share_of self.old / 2 }
     {
         let seat = table.table.shared.split_seat::<Half>(&mut self.seat);
         JobPass { seat }

@@ -53,11 +53,13 @@ fn draw_beside<R: Threads + Sync>(
     let (mine, theirs) = thread::join(
         rt,
         || -> Result<(JobPass, Vec<u32>), AllocError>
-            requires { IsSync R.row × (1 < threads) × IsPassOf table.now pass × (threads - threads / 2 ≤ share_of pass) }
+            requires sync { IsSync R.row × (1 < threads) }
+            requires pass { IsPassOf table.now pass × (threads - threads / 2 ≤ share_of pass) }
             ensures { IfOk result (λ r. IsPassOf table.entry.now r.0) }
         { draw_beside(rt, alloc, table, pass, threads - threads / 2) },
         || -> Result<(JobPass, Vec<u32>), AllocError>
-            requires { IsSync R.row × (1 < threads) × IsPassOf table.now other × (threads / 2 ≤ share_of other) }
+            requires sync { IsSync R.row × (1 < threads) }
+            requires pass { IsPassOf table.now other × (threads / 2 ≤ share_of other) }
             ensures { IfOk result (λ r. IsPassOf table.entry.now r.0) }
         { draw_beside(rt, alloc, table, other, threads / 2) },
     );
