@@ -1,5 +1,5 @@
 -- The definitions on small lists.
-use Rattle.std.proofs.Common.{◌≡◌, ℕ, List, [], ◌∷◌, Some, None, replicate, refl, arith}
+use Rattle.std.proofs.Common.{◌≡◌, ℕ, [], ◌∷◌, Some, None, replicate, refl, arith}
 use Rattle.std.proofs.lemmas.Bool.Decides.{nat_tests}
 use Rattle.job_deal.specs.Counts.{times, EachOnce, those_below}
 use Rattle.job_deal.specs.Results.{put_all}

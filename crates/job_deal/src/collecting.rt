@@ -40,7 +40,7 @@ fn filled<T: Drop>(alloc: Global, places: Vec<Option<T>>) -> Result<Vec<T>, Allo
 
 /// The results of all parts in the order of their jobs. Each is moved, and none is copied.
 ///
-/// Each job below `jobs` has one result in the parts.
+/// Each job below `jobs` has one result in the parts. The only error is want of memory.
 pub fn collect<T: Drop>(
     alloc: Global,
     jobs: u32,

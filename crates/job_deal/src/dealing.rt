@@ -11,6 +11,7 @@ use std::alloc::Global;
 
 impl JobTable {
     /// A table from which no number was drawn, and the first pass, which has the whole share.
+    /// There are at most 64 jobs. The only error is want of memory.
     pub fn build(alloc: Global, jobs: u32) -> Result<(JobTable, JobPass), NoMemory>
         requires { jobs ≤ 64 }
         ensures table { IfOk result (λ r. (r.0.jobs ≡ jobs) × IsPassOf r.0 r.1) }
@@ -20,7 +21,7 @@ impl JobTable {
         Ok((JobTable { table, jobs }, JobPass { seat }))
     }
 
-    /// Draws the next number, and returns it if it is a job's. Once it is none, so are all later ones.
+    /// Draws the next number in one step, and returns it if it is a job's.
     pub fn deal(&self, pass: &mut JobPass) -> Option<u32>
         requires { IsPassOf self.now pass.old }
         ensures same { IsPassOf self.now pass.new × (share_of pass.new ≡ share_of pass.old) }
@@ -61,7 +62,7 @@ impl JobPass {
     {
         let JobPass { seat } = other;
         table.table.shared.join_seat::<Both>(&mut self.seat, seat);
-        // A join tells nothing of other passes, so the word is read once more.
+        // `join_seat` tells nothing of the rule, and a load does: so the pass learns here that it has all draws.
         table.table.shared.load::<Look>(&mut self.seat, 0);
     }
 }

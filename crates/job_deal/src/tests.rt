@@ -15,7 +15,7 @@ const THREADS: u32 = 16;
 
 const ROUNDS: u32 = 1000;
 
-/// Draws until no job is left, and returns the jobs drawn.
+/// Draws until no job is left, at most once more than there are jobs, and returns the jobs drawn.
 fn draw_all(
     alloc: Global,
     table: &JobTable,
