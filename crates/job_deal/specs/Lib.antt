@@ -1,0 +1,4 @@
+pub mod Counts
+pub mod Dealt
+pub mod Passes
+pub mod Results
