@@ -1,0 +1,7 @@
+//! The code of a program, read-only, and what it means: the machine (`specs/Machine.antt`).
+#![tactic(auto)]
+
+pub mod laws;
+mod pool;
+
+pub use pool::{CodePool, Constant, MethodBody};
