@@ -12,7 +12,7 @@ use Rattle.program.specs.declared.numbered.MethodBody.TheVariants as does
 use Rattle.program.specs.declared.numbered.Function.{Function}
 use Rattle.program.specs.Sizes.{exp_size, exps_size, stas_size, body_size, code_size, method_size, function_size, constructor_size}
 use Rattle.dart_meaning.specs.Numbered.{literal}
-use Rattle.numbered_tree.specs.Forms.{BodyForm, arrow, block, ConstructorForm, DoesForm, native, reads_field, writes_field, runs, MethodForm, FunctionForm, body_form, constructor_form, does_form, method_form, function_form}
+use Rattle.dart_meaning.specs.Forms.{BodyForm, arrow, block, ConstructorForm, DoesForm, native, reads_field, writes_field, runs, MethodForm, FunctionForm, body_form, constructor_form, does_form, method_form, function_form}
 
 abbrev pub body_form_size : BodyForm → ℕ
 body_form_size (arrow e) = exp_size e

@@ -20,8 +20,8 @@ use Rattle.dart_meaning.specs.Operators.{operator_name}
 use Rattle.dart_meaning.specs.Entry.{globals_of}
 use Rattle.dart_meaning.specs.Sites.{site_of}
 use Rattle.dart_meaning.specs.Numbering as num
-use Rattle.numbered_tree.specs.Forms.{MethodForm, ConstructorForm, FunctionForm, DoesForm, BodyForm, runs, Form, class_form, method_form, function_form, constructor_form, ClassForm}
-use Rattle.numbered_tree.specs.NumberedForm.{IsNumberedOf, default, defaults, numbered_body, numbered_constructor, written_constructor, numbered_class, numbered_member, numbered_members, numbered_function, with_body}
+use Rattle.dart_meaning.specs.Forms.{MethodForm, ConstructorForm, FunctionForm, DoesForm, BodyForm, runs, Form, class_form, method_form, function_form, constructor_form, ClassForm}
+use Rattle.dart_meaning.specs.NumberedForm.{IsNumberedOf, default, defaults, numbered_body, numbered_constructor, written_constructor, numbered_class, numbered_member, numbered_members, numbered_function, with_body}
 use Rattle.text_trees.specs.Nodes.{all_nodes, exp_nodes, body_nodes, some_body_nodes, some_block_nodes, passed_nodes, exps_nodes, stas_nodes, member_nodes, class_nodes, function_nodes, top_nodes, tree_nodes}
 use Rattle.text_trees.proofs.Sizes.{exp_fits, exps_fit, stas_fit}
 use Rattle.class_proofs.proofs.Lists.{In, NoTwice, same_or_other, other_text, text_self}

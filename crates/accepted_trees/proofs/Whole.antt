@@ -26,8 +26,8 @@ use Rattle.dart_meaning.specs.Entry.{entry_meaning}
 use Rattle.dart_meaning.specs.Numbered.{entry_meaning_n}
 use Rattle.dart_meaning.proofs.BodiesAgree.{numbered_is_same}
 use Rattle.static_rules.specs.Accepted.{IsAccepted}
-use Rattle.numbered_tree.specs.Forms.{Form, body_form, constructor_form}
-use Rattle.numbered_tree.specs.NumberedForm.{IsNumberedOf, defaults, numbered_body, numbered_constructor, written_constructor}
+use Rattle.dart_meaning.specs.Forms.{Form, body_form, constructor_form}
+use Rattle.dart_meaning.specs.NumberedForm.{IsNumberedOf, defaults, numbered_body, numbered_constructor, written_constructor}
 use Rattle.text_trees.specs.Written.{Each, IsPlainParam, IsWritten, IsWrittenMember, IsWrittenTop}
 use Rattle.site_tables.proofs.Tables as sites
 use Rattle.class_proofs.proofs.Lists.{In, from_map, get_in, in_get, from_kept}

@@ -12,7 +12,7 @@ ghost use Rattle.dart_meaning.specs.Entry.{entry_meaning};
 ghost use Rattle.dart_meaning.specs.Numbered.{entry_meaning_n};
 ghost use Rattle.dart_meaning.specs.Sites.{site_of};
 ghost use Rattle.static_rules.specs.Accepted.{IsAccepted};
-ghost use Rattle.numbered_tree.specs.NumberedForm.{IsNumberedOf};
+ghost use Rattle.dart_meaning.specs.NumberedForm.{IsNumberedOf};
 ghost use Rattle.text_trees.specs.Written.{IsWritten};
 
 /// A program that holds the numbered form of an accepted tree is sound, where the tree keeps what the trees of texts keep.

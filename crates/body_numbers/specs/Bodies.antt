@@ -6,7 +6,7 @@ use Rattle.dart_syntax.specs.Syntax.{Tree, Body, Stas, Exps, Passed}
 use Rattle.dart_values.specs.Values.{Text}
 use Rattle.dart_meaning.specs.Place.{Place}
 use Rattle.dart_meaning.specs.Numbering as num
-use Rattle.numbered_tree.specs.Forms.{BodyForm, arrow, block}
+use Rattle.dart_meaning.specs.Forms.{BodyForm, arrow, block}
 
 abbrev pub numbered : Tree → (Place → ℕ) → Option Text → List Text → Body → BodyForm
 numbered tree site_of here names (t.arrow e) = arrow (num.exp tree site_of here names e)

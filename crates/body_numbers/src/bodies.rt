@@ -3,7 +3,7 @@
 ghost use Rattle.std.specs.Prelude.{◌≡◌, IfOk, map, option_map};
 ghost use Rattle.dart_syntax.specs.View as view;
 ghost use Rattle.dart_meaning.specs.Numbering as num;
-ghost use Rattle.numbered_tree.specs.Forms.{body_form};
+ghost use Rattle.dart_meaning.specs.Forms.{body_form};
 ghost use Rattle.body_numbers.specs.Views.{exps_of, stas_of};
 ghost use Rattle.body_numbers.specs.Bodies.{numbered, passed_args, block_or_none};
 

@@ -18,8 +18,8 @@ use Rattle.dart_meaning.specs.Numbering as num
 use Rattle.dart_meaning.specs.Sites.{site_of}
 use Rattle.dart_meaning.specs.Uses as uses
 use Rattle.dart_meaning.specs.Uses.{Part, Scope, Use, declared_uses, locals, nothing_seen, opened, with_params}
-use Rattle.numbered_tree.specs.Forms.{body_form}
-use Rattle.numbered_tree.specs.NumberedForm.{defaults, numbered_body}
+use Rattle.dart_meaning.specs.Forms.{body_form}
+use Rattle.dart_meaning.specs.NumberedForm.{defaults, numbered_body}
 use Rattle.text_trees.specs.Written.{AreWrittenStas, Each, IsPlainParam, IsWrittenBody}
 use Rattle.body_proofs.specs.Tables.{Tables}
 use Rattle.body_proofs.specs.Fine.{AllFine}

@@ -23,8 +23,8 @@ use Rattle.dart_meaning.specs.Classes.{class_at, class_named, class_number, cons
 use Rattle.dart_meaning.specs.Numbering as num
 use Rattle.dart_meaning.specs.Sites.{site_of}
 use Rattle.dart_meaning.specs.Uses.{is_constructor}
-use Rattle.numbered_tree.specs.Forms.{ConstructorForm, class_form, constructor_form}
-use Rattle.numbered_tree.specs.NumberedForm.{numbered_class, numbered_constructor, written_constructor}
+use Rattle.dart_meaning.specs.Forms.{ConstructorForm, class_form, constructor_form}
+use Rattle.dart_meaning.specs.NumberedForm.{numbered_class, numbered_constructor, written_constructor}
 use Rattle.static_rules.specs.UndefinedName.{has_field}
 use Rattle.static_rules.specs.WrongArgumentsOfStatic.{super_count}
 use Rattle.text_trees.specs.Written.{Each}

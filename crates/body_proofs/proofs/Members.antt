@@ -21,8 +21,8 @@ use Rattle.dart_meaning.specs.Classes.{class_at, class_number, classes, field_pl
 use Rattle.dart_meaning.specs.Agree.{BothOrNone, IsFunction}
 use Rattle.dart_meaning.specs.Numbering as num
 use Rattle.dart_meaning.specs.Sites.{site_of}
-use Rattle.numbered_tree.specs.Forms.{BodyForm, DoesForm, MethodForm, body_form, does_form, function_form, method_form, native, reads_field, writes_field, runs}
-use Rattle.numbered_tree.specs.NumberedForm.{IsNumberedOf, defaults, method, numbered_body, numbered_function, numbered_member, numbered_members, with_body}
+use Rattle.dart_meaning.specs.Forms.{BodyForm, DoesForm, MethodForm, body_form, does_form, function_form, method_form, native, reads_field, writes_field, runs}
+use Rattle.dart_meaning.specs.NumberedForm.{IsNumberedOf, defaults, method, numbered_body, numbered_function, numbered_member, numbered_members, with_body}
 use Rattle.text_trees.specs.Written.{Each}
 use Rattle.body_proofs.proofs.Bodies.{GoodCode, code_is, sound_code}
 use Rattle.body_proofs.proofs.Each.{each_get, flat_each, join_each, kept_each, tested_each}

@@ -12,7 +12,7 @@ use Rattle.dart_meaning.specs.Classes.{if_so, literal_or_null, required}
 use Rattle.dart_meaning.specs.Agree.{AreParams}
 use Rattle.dart_meaning.specs.Numbering.{param_names}
 use Rattle.dart_meaning.specs.Sites.{site_of}
-use Rattle.numbered_tree.specs.NumberedForm.{default, defaults}
+use Rattle.dart_meaning.specs.NumberedForm.{default, defaults}
 use Rattle.text_trees.specs.Written.{AreWrittenParams, Each, IsPlainParam}
 
 pub all_written : (params : List Param) → Each IsPlainParam params → AreWrittenParams params

@@ -19,8 +19,8 @@ use Rattle.dart_meaning.specs.Numbered.{literal}
 use Rattle.dart_meaning.specs.Classes.{class_named, function_at, functions, is_abstract, is_constructed, literal_or_null, object, variable_at, variable_place, variables}
 use Rattle.dart_meaning.specs.Means.{is_built_in, print_name, top_name, top_named}
 use Rattle.dart_meaning.specs.Numbering as num
-use Rattle.numbered_tree.specs.Forms.{FunctionForm, function_form}
-use Rattle.numbered_tree.specs.NumberedForm.{IsNumberedOf, numbered_function}
+use Rattle.dart_meaning.specs.Forms.{FunctionForm, function_form}
+use Rattle.dart_meaning.specs.NumberedForm.{IsNumberedOf, numbered_function}
 use Rattle.static_rules.specs.DuplicateName.{duplicate_name, in_top}
 use Rattle.static_rules.specs.Places.{at_if, first_in}
 use Rattle.static_rules.specs.Repeats.{Before, repeated, with_name}

@@ -22,8 +22,8 @@ use Rattle.dart_meaning.specs.Classes as classes
 use Rattle.dart_meaning.specs.Classes.{Taking, class_named, class_number, classes, constructor_in, constructor_of, first_some, functions, if_so, object, own, parent_of}
 use Rattle.dart_meaning.specs.Numbering as num
 use Rattle.dart_meaning.specs.Sites.{site_of}
-use Rattle.numbered_tree.specs.Forms.{ClassForm, body_form, class_form, constructor_form}
-use Rattle.numbered_tree.specs.NumberedForm.{IsNumberedOf, numbered_body, numbered_class, numbered_constructor, written_constructor}
+use Rattle.dart_meaning.specs.Forms.{ClassForm, body_form, class_form, constructor_form}
+use Rattle.dart_meaning.specs.NumberedForm.{IsNumberedOf, numbered_body, numbered_class, numbered_constructor, written_constructor}
 use Rattle.static_rules.specs.Accepted.{failing}
 use Rattle.text_trees.specs.Written.{Each, IsWritten}
 use Rattle.body_proofs.specs.Tables.{Tables}

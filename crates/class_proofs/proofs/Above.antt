@@ -14,8 +14,8 @@ use Rattle.program.specs.Parts.{Parts, parents, supers, named_above}
 use Rattle.dart_values.specs.Values.{Text}
 use Rattle.dart_meaning.specs.Classes.{classes, class_count, class_names, class_name, class_number, class_numbers, object, parent, interfaces_of, chain, chain_above, is_subtype_from}
 use Rattle.dart_meaning.specs.Classes as classes
-use Rattle.numbered_tree.specs.Forms.{ClassForm, Form, class_form}
-use Rattle.numbered_tree.specs.NumberedForm.{IsNumberedOf, numbered_class}
+use Rattle.dart_meaning.specs.Forms.{ClassForm, Form, class_form}
+use Rattle.dart_meaning.specs.NumberedForm.{IsNumberedOf, numbered_class}
 use Rattle.class_proofs.proofs.Lists.{In, in_map}
 use Rattle.class_proofs.proofs.Kept.{KeepsClasses, map_twice}
 use Rattle.class_proofs.proofs.Ways.{above_of, Known, Ends, ends, above_known, parent_object}

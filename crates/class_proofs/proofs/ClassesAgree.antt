@@ -27,8 +27,8 @@ use Rattle.dart_meaning.specs.Agree.{BothOrNone, IsCode, IsConstructor, MayBeCon
 use Rattle.static_rules.specs.Accepted.{counts, exceeded}
 use Rattle.static_rules.specs.declared.rule.Limit.{Limit}
 use Rattle.static_rules.specs.declared.rule.Limit.TheVariants as limit
-use Rattle.numbered_tree.specs.Forms.{ClassForm, FieldForm, class_form, field_form, constructor_form}
-use Rattle.numbered_tree.specs.NumberedForm.{IsNumberedOf, numbered_class, numbered_field, numbered_constructor, written_constructor}
+use Rattle.dart_meaning.specs.Forms.{ClassForm, FieldForm, class_form, field_form, constructor_form}
+use Rattle.dart_meaning.specs.NumberedForm.{IsNumberedOf, numbered_class, numbered_field, numbered_constructor, written_constructor}
 use Rattle.class_proofs.proofs.Lists.{In, in_either, in_back}
 use Rattle.class_proofs.proofs.Kept.{KeepsClasses, map_twice, user_names}
 use Rattle.class_proofs.proofs.Ways.{Known, above_of, above_is, above_known}

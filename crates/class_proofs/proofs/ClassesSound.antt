@@ -10,8 +10,8 @@ use Rattle.program.specs.Whole.{IsClass, SoundClass, HasSoundConstructor, SoundC
 use Rattle.dart_values.specs.Values.{Text}
 use Rattle.dart_meaning.specs.Classes.{class_name, class_number}
 use Rattle.dart_meaning.specs.Classes as classes
-use Rattle.numbered_tree.specs.Forms.{ClassForm, class_form, constructor_form}
-use Rattle.numbered_tree.specs.NumberedForm.{IsNumberedOf, numbered_class, numbered_constructor, written_constructor}
+use Rattle.dart_meaning.specs.Forms.{ClassForm, class_form, constructor_form}
+use Rattle.dart_meaning.specs.NumberedForm.{IsNumberedOf, numbered_class, numbered_constructor, written_constructor}
 use Rattle.class_proofs.proofs.Lists.{In}
 use Rattle.class_proofs.proofs.Kept.{KeepsClasses, user_names}
 use Rattle.class_proofs.proofs.Ways.{Known}

@@ -1,5 +1,5 @@
 -- A run over sound units has its parts: places, operands and slots are there at each step.
-use Rattle.std.proofs.Common.{◌≡◌, ℕ, zero, suc, ◌+◌, ◌-◌, ◌<◌, ◌≤◌, Bool, true, false, ◌&&◌, nat_le, nat_lt, List, [], ◌∷◌, ◌++◌, length, map, take, drop, replicate, slice_get, slice_set, refl, sym, ◌∙◌, ap, subst, arith, length-append}
+use Rattle.std.proofs.Common.{◌≡◌, ℕ, zero, suc, ◌+◌, ◌-◌, ◌<◌, ◌≤◌, Bool, true, false, ◌&&◌, ◌||◌, nat_le, nat_lt, nat_eq, List, [], ◌∷◌, ◌++◌, length, map, take, drop, replicate, slice_get, slice_set, refl, sym, ◌∙◌, ap, subst, arith, length-append}
 use Rattle.std.specs.Prelude.{⊤, Option, Some, None}
 use Rattle.std.proofs.lemmas.Bool.Decides.{nat_tests}
 use Rattle.std.proofs.lemmas.Grind.{common_steps}
@@ -11,8 +11,9 @@ use Rattle.program.specs.declared.numbered.Target.{Target}
 use Rattle.program.specs.declared.numbered.Target.TheVariants as target
 use Rattle.program.specs.Parts.{Parts}
 use Rattle.dart_values.specs.Values.{Value, null, bool, num, text, at, Thing, object, list, invocation}
-use Rattle.dart_meaning.specs.Run.{Run, Result, went, ended, M, choose, spend}
-use Rattle.dart_meaning.specs.Numbered.{literal}
+use Rattle.dart_meaning.specs.Run.{Run, Store, Result, went, ended, stack_overflow, M, choose, spend}
+use Rattle.dart_meaning.specs.Literals.{literal}
+use Rattle.dart_meaning.specs.Entry.{greatest_depth}
 use Rattle.code_unit.specs.declared.instr.Instr.{Instr}
 use Rattle.code_unit.specs.declared.instr.Instr.TheVariants.{Const, Local, SetLocal, Global, SetGlobal, Pop, Dup, Dup2, Jump, JumpIfFalse, ExpectBool, Not, LoopTurn, Call, Equal, CallStatic, CallMethod, Return, Throw, New, SetField, MakeList, Concat, ExpectString, IsClass, Emit, ElementOr}
 use Rattle.code_unit.specs.declared.unit.Unit.{Unit}
@@ -22,7 +23,7 @@ use Rattle.code_pool.specs.declared.pool.MethodBody.{MethodBody}
 use Rattle.code_pool.specs.declared.pool.MethodBody.TheVariants.{Native, ReadField, WriteField, Code}
 use Rattle.code_pool.specs.Pool.{Pool}
 use Rattle.code_pool.specs.Machine as m
-use Rattle.code_pool.specs.Machine.{Store, Frame, State, Lack, Step, to, over, stuck, Outcome, accepts, filled_in, slots}
+use Rattle.code_pool.specs.Machine.{Frame, State, Lack, Step, to, over, stuck, Outcome, accepts, filled_in, slots}
 use Rattle.code_pool.specs.Laws.{AllSound, IsOwed, HasItsParts}
 
 -- ---- lists and tests
@@ -159,11 +160,11 @@ module _ (p : Parts) (pool : Pool) (answers : ℕ → ℕ → Target) (sound : A
   choose_good false x y f g = g
 
   after_good : {A : Type 0} (s : State) (r : Result Value A) (go : A → State → Step) → ((a : A) (store : Store) → Good (go a (record s { store = store }))) → Good (m.after s r go)
-  after_good s (went a r) go h = h a (m.store_of r)
+  after_good s (went a r) go h = h a r.store
   after_good s (ended e r) go h = tt
 
   by_good : {A : Type 0} (x : M Value A) (s : State) (go : A → State → Step) → ((a : A) (store : Store) → Good (go a (record s { store = store }))) → Good (m.by x s go)
-  by_good x s go h = after_good s (x (m.run_of s.store)) go h
+  by_good x s go h = after_good s (x (record { vars = []; this = null; store = s.store })) go h
 
   -- ---- operands
 
@@ -235,10 +236,10 @@ module _ (p : Parts) (pool : Pool) (answers : ℕ → ℕ → Target) (sound : A
 
   enter_good : (u : ℕ) (s : State) (below args : List Value) → Ready s below → Good (m.enter p pool answers u s below args)
   enter_good u s below args h = some_owed m.no_number _ _ tt (λ unit is. when_owed m.wrong_count _ _ tt (λ ok.
-      by_good spend s _ (λ _ store. choose_good _ _ _ (begin_good u unit (record s { store = store }) below args is ok h) tt)))
+      by_good spend s _ (λ _ store. choose_good (nat_lt (length s.callers + 1) greatest_depth) (m.begin u unit (record s { store = store }) below args) (over stack_overflow store) (begin_good u unit (record s { store = store }) below args is ok h) tt)))
 
   natively_good : (n c : ℕ) (s : State) (below : List Value) (v : Value) (args : List Value) → Ready s below → Good (m.natively p pool answers n c s below v args)
-  natively_good n c s below v args h = when_owed m.wrong_kind _ _ tt (λ _. some_owed m.no_number _ _ tt (λ k _. when_owed m.wrong_receiver _ _ tt (λ _. when_owed m.wrong_count _ _ tt (λ _.
+  natively_good n c s below v args h = when_owed m.wrong_kind (m.is_native p pool answers n) _ tt (λ _. some_owed m.no_number _ _ tt (λ k _. when_owed m.wrong_receiver _ _ tt (λ _. when_owed m.wrong_count _ _ tt (λ _.
       by_good _ s _ (λ w store. push_good (record s { store = store }) below w h)))))
 
   perform_good : (does : MethodBody) (c : ℕ) (s : State) (below : List Value) (v : Value) (args : List Value) → Ready s below → Good (m.perform p pool answers does c s below v args)

@@ -8,15 +8,16 @@ use Rattle.program.specs.declared.numbered.Target.TheVariants as target
 use Rattle.program.specs.Hierarchy as hierarchy
 use Rattle.program.specs.Parts.{Parts, supers, is_concrete}
 use Rattle.program.specs.BuiltIn.{is_open, built_in_members}
-use Rattle.program.specs.BuiltIn as built_in
-use Rattle.dart_values.specs.declared.fault.Trap.TheVariants as trap
-use Rattle.dart_values.specs.Values.{Text, Value, null, bool, num, text, Heap, Thing, object, list, invocation, class_of}
-use Rattle.dart_values.specs.Natives.{native, thing_at}
-use Rattle.dart_values.specs.Reads.{text_in, object_fields, field_of, class_name, thrown_text}
-use Rattle.dart_meaning.specs.Run.{Run, Ending, done, stack_overflow, Result, went, ended, M, ◌>>=◌, ◌>>◌, pure, trapped, look, choose, spend, need_bool, need_text, new, set_field, ask, note_test, add_line}
-use Rattle.dart_meaning.specs.Calls.{is_null, told_name, given, list_to_string}
-use Rattle.dart_meaning.specs.Numbered.{literal, fields}
-use Rattle.dart_meaning.specs.Entry.{Meaning, start, greatest_depth}
+use Rattle.dart_values.specs.Values.{Text, Value, null, bool, num, text, Heap, Thing, object, list, class_of}
+use Rattle.dart_values.specs.Natives.{thing_at}
+use Rattle.dart_values.specs.Reads.{text_in, object_fields, field_of}
+use Rattle.dart_meaning.specs.Run.{Run, Store, Ending, done, stack_overflow, Result, went, ended, M, choose, spend, need_bool, need_text, new, set_field, ask, add_line}
+use Rattle.dart_meaning.specs.Calls as calls
+use Rattle.dart_meaning.specs.Calls.{is_null, invoked, list_to_string}
+use Rattle.dart_meaning.specs.Literals.{literal}
+use Rattle.dart_meaning.specs.Numbered.{of_numbered, fields}
+use Rattle.dart_meaning.specs.Entry as meaning
+use Rattle.dart_meaning.specs.Entry.{Meaning, first_store, greatest_depth}
 use Rattle.code_unit.specs.declared.instr.Instr.{Instr}
 use Rattle.code_unit.specs.declared.instr.Instr.TheVariants.{Const, Local, SetLocal, Global, SetGlobal, Pop, Dup, Dup2, Jump, JumpIfFalse, ExpectBool, Not, LoopTurn, Call, Equal, CallStatic, CallMethod, Return, Throw, New, SetField, MakeList, Concat, ExpectString, IsClass, Emit, ElementOr}
 use Rattle.code_unit.specs.declared.unit.Unit.{Unit}
@@ -25,15 +26,6 @@ use Rattle.code_pool.specs.declared.pool.MethodBody.TheVariants.{Native, ReadFie
 use Rattle.code_pool.specs.Pool.{Pool}
 
 -- ---- states
-
--- what all bodies of a run share
-pub record Store : Type 0 where
-  pub heap : Heap
-  pub globals : List Value
-  pub lines : List Text
-  pub turns : ℕ
-  pub asked : List (ℕ × ℕ)
-  pub tests : List (ℕ × ℕ)
 
 -- a unit that runs, or waits for a call: its number, the place in its code, and where its slots begin in the values
 pub record Frame : Type 0 where
@@ -68,20 +60,14 @@ pub data Step : Type 0 where
 
 -- ---- steps of the meaning
 
-abbrev pub run_of : Store → Run Value
-run_of s = record { vars = []; this = null; heap = s.heap; globals = s.globals; lines = s.lines; turns = s.turns; asked = s.asked; tests = s.tests }
-
-abbrev pub store_of : Run Value → Store
-store_of r = record { heap = r.heap; globals = r.globals; lines = r.lines; turns = r.turns; asked = r.asked; tests = r.tests }
-
 -- what follows a step of the meaning, with its answer
 abbrev pub after : {A : Type 0} → State → Result Value A → (A → State → Step) → Step
-after s (went a r) go = go a (record s { store = store_of r })
-after s (ended e r) go = over e (store_of r)
+after s (went a r) go = go a (record s { store = r.store })
+after s (ended e r) go = over e r.store
 
--- A step of the meaning is done on what is shared. Where it ends, the run ends.
+-- A step of the meaning is done on the store alone: it sees no variables. Where it ends, the run ends.
 abbrev pub by : {A : Type 0} → M Value A → State → (A → State → Step) → Step
-by m s go = after s (m (run_of s.store)) go
+by m s go = after s (m (record { vars = []; this = null; store = s.store })) go
 
 -- ---- operands
 
@@ -185,7 +171,11 @@ pub data Outcome : Type 0 where
 
 -- a run that ended, as the meaning tells it
 abbrev pub told : Ending → Store → Outcome
-told e s = ends (record { lines = s.lines; ending = e; asked = s.asked; tests = s.tests })
+told e s = ends (meaning.told e s)
+
+-- a unit in the first frame, with no caller
+abbrev pub opening : ℕ → Unit → Store → State
+opening u unit store = record { frame = record { unit = u; place = 0; base = 0 }; callers = []; values = slots unit []; store = store }
 
 -- what follows a step, where it leads on
 abbrev pub resume : Step → (State → Outcome) → Outcome
@@ -219,7 +209,7 @@ module _ (p : Parts) (pool : Pool) (answers : ℕ → ℕ → Target) where
   abbrev pub natively : ℕ → ℕ → State → List Value → Value → List Value → Step
   natively n c s below v args = when wrong_kind (is_native n) (some no_number (slice_get built_in_members n) (λ (k : Method).
       when wrong_receiver (is_owned c k.owner.0) (when wrong_count (nat_eq (length args) k.required)
-      (by (λ r. given (native (class_name p.classes) n r.heap v args) r) s (λ w s. push s below w)))))
+      (by (calls.natively (of_numbered p) n v args) s (λ w s. push s below w)))))
 
   -- What a member does, on a receiver of class c. A unit has the receiver as its first slot; the others spend no turn and have no frame.
   abbrev pub perform : MethodBody → ℕ → State → List Value → Value → List Value → Step
@@ -235,9 +225,6 @@ module _ (p : Parts) (pool : Pool) (answers : ℕ → ℕ → Target) where
   call_method m c s below v args = some no_number (slice_get pool.methods m) (λ does. some no_number (slice_get p.methods m) (λ (k : Method).
       when wrong_receiver (is_owned c k.owner.0) (perform does c s below v args)))
 
-  abbrev pub invoked : Selector → List Value → M Value Value
-  invoked sel args = new (list args) >>= (λ all. new (invocation (told_name sel.kind sel.name) all sel.kind))
-
   -- A call that finds no member makes an Invocation, and calls the receiver's `noSuchMethod` with it.
   abbrev pub reach : Target → Selector → ℕ → State → List Value → Value → List Value → Step
   reach (target.Method m) sel c s below v args = call_method m.0 c s below v args
@@ -248,16 +235,7 @@ module _ (p : Parts) (pool : Pool) (answers : ℕ → ℕ → Target) where
   send site s below v args = some no_number (slice_get pool.sites site) (λ k. some no_number (slice_get p.selectors k.0) (λ sel.
       by (ask site v) s (λ c s. reach (answers c k.0) sel c s below v args)))
 
-  -- ---- tests, objects, elements
-
-  -- Null is of class Null alone, and no test is counted for it.
-  abbrev pub is_of : Value → ℕ → M Value Bool
-  is_of v c =
-      choose (is_null v) (pure (nat_eq c built_in.null))
-      (look (λ r. class_of r.heap v) >>= (λ own. note_test own c >> pure (hierarchy.is_subtype (supers p.classes) own c)))
-
-  abbrev pub throw : Value → M Value Value
-  throw v = choose (is_null v) (trapped trap.TypeFault) (look (λ r. thrown_text (class_name p.classes) r.heap v) >>= (λ s. trapped (trap.Thrown s)))
+  -- ---- objects, elements
 
   -- an object is made of this class: Object, or a class of the user's that is not abstract
   abbrev pub may_make : ℕ → Bool
@@ -318,7 +296,7 @@ module _ (p : Parts) (pool : Pool) (answers : ℕ → ℕ → Target) where
   -- answers the top value to the caller
   act unit Return s = top_one s (λ below v. leave s v)
   -- ends the run with the text of the top value; null is a TypeFault
-  act unit Throw s = top_one s (λ below v. by (throw v) s (λ _ s. stuck wrong_kind))
+  act unit Throw s = top_one s (λ below v. by (calls.throw (of_numbered p) v) s (λ _ s. stuck wrong_kind))
   -- Pushes a new object with the literals of its fields. `C(args)` makes it behind its arguments, so the code puts these into slots of the unit,
   -- the last one first, makes the object, pushes the slots again above it, and enters the constructor by `CallStatic`.
   act unit (New c) s = when wrong_class (may_make c.0) (by (new (object c.0 (fields p c.0))) s (λ v s. push s s.values v))
@@ -331,7 +309,7 @@ module _ (p : Parts) (pool : Pool) (answers : ℕ → ℕ → Target) where
   -- keeps a text; another value is a TypeFault
   act unit ExpectString s = top_one s (λ below v. by (need_text v) s (λ t s. push s below (text t)))
   -- whether the class of the value is c, or c is above it
-  act unit (IsClass c) s = top_one s (λ below v. by (is_of v c.0) s (λ holds s. push s below (bool holds)))
+  act unit (IsClass c) s = top_one s (λ below v. by (calls.is_of (of_numbered p) v c.0) s (λ holds s. push s below (bool holds)))
   -- pops a text and adds it to the lines
   act unit Emit s = top_one s (λ below v. some wrong_kind (text_in v) (λ t. by (add_line t) s (λ _ s. on s below)))
   -- Takes a list and a number. Pushes the element there and the next number; where there is none, pushes nothing and goes to place t.
@@ -351,11 +329,7 @@ module _ (p : Parts) (pool : Pool) (answers : ℕ → ℕ → Target) where
   -- An entry point's unit takes no values. Its first turn is spent; it has depth 1.
   abbrev pub started : ℕ → ℕ → Step
   started e turns = some no_number (slice_get pool.entries e) (λ u. some no_number (slice_get pool.units u.0) (λ unit. when wrong_count (nat_eq unit.params 0)
-      (by spend (opening u.0 unit (start (map literal p.globals) turns)) (λ _ s. to s))))
-    where
-      -- a unit in the first frame, with no caller
-      opening : ℕ → Unit → Run Value → State
-      opening u unit r = record { frame = record { unit = u; place = 0; base = 0 }; callers = []; values = slots unit []; store = store_of r }
+      (by spend (opening u.0 unit (first_store (map literal p.globals) turns)) (λ _ s. to s))))
 
   -- Each turn pays for at most so many instructions.
   abbrev pub most : ℕ → ℕ

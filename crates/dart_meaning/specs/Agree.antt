@@ -22,11 +22,12 @@ use Rattle.dart_meaning.specs.Place.{Place, reading, writing, in_print, in_list}
 use Rattle.dart_meaning.specs.Operators.{compound}
 use Rattle.dart_meaning.specs.Program.{Found, built_in, reads, writes, coded, calling, getting, setting}
 use Rattle.dart_meaning.specs.Classes as classes
-use Rattle.dart_meaning.specs.Classes.{Code, body_of, constructing, literal_or_null, class_declares, class_number, class_numbers, is_constructed, function_named, functions, object, parent, no_constructor, of_tree}
-use Rattle.dart_meaning.specs.Meaning.{Scope, of_this, count}
+use Rattle.dart_meaning.specs.Classes.{Code, body_of, constructing, class_declares, class_number, class_numbers, is_constructed, function_named, functions, object, parent, no_constructor, of_tree}
+use Rattle.dart_meaning.specs.Meaning.{Owner, of_this, count}
 use Rattle.dart_meaning.specs.Entry.{globals_of, entry_meaning}
 use Rattle.dart_meaning.specs.Numbered as n
-use Rattle.dart_meaning.specs.Numbered.{literal, of_numbered, method_at, entry_meaning_n}
+use Rattle.dart_meaning.specs.Literals.{literal, literal_or_null, negated}
+use Rattle.dart_meaning.specs.Numbered.{of_numbered, method_at, entry_meaning_n}
 use Rattle.dart_meaning.specs.Numbering as num
 
 -- both there and related, or neither there
@@ -57,14 +58,15 @@ module _ (tree : Tree) (site_of : Place → ℕ) (p : Parts) where
     FindsAbove sel = (found : Found n.Code) × (method_at p (num.super_number tree site_of here sel.kind sel.name) ≡ Some found) × ((of_numbered p).lookup (above tree here) sel ≡ Some found)
 
     -- a bare name that means a member of `this`
-    abbrev pub BareCalls : Scope → Place → Selector → Type 0
+    abbrev pub BareCalls : Owner → Place → Selector → Type 0
     BareCalls of_this place sel = CallsAt place sel
     BareCalls _ place sel = Unit {0}
 
-    -- `f(x)` means `this.f(x)` where the class declares it, and where it is no function, no class and no `print`.
+    -- `f(x)` means `this.f(x)` where the class declares it, and where it is no function, no class and no `print`, which takes one argument.
     abbrev pub BareCallCalls : Bool → Option ℕ → Bool → Bool → Place → Selector → Type 0
     BareCallCalls true f is_class is_print place sel = CallsAt place sel
     BareCallCalls false None false false place sel = CallsAt place sel
+    BareCallCalls false None false true place sel = sel.count ≡ 1
     BareCallCalls false _ _ _ place sel = Unit {0}
 
     abbrev pub PrefixCalls : Unary → Span → Type 0
@@ -76,7 +78,7 @@ module _ (tree : Tree) (site_of : Place → ℕ) (p : Parts) where
     abbrev mutual
       pub ExpCalls : List Text → t.Exp → Type 0
       ExpCalls names (t.joined units span more) = PiecesCall names more
-      ExpCalls names (t.bare x) = BareCalls (num.scope tree site_of here names x.text) (reading x.span.start) (getting x.text)
+      ExpCalls names (t.bare x) = BareCalls (num.owner tree site_of here names x.text) (reading x.span.start) (getting x.text)
       ExpCalls names (t.call x args) =
           BareCallCalls (class_declares tree here x.text) (num.function_number tree x.text) (is_constructed tree x.text) (bytes_eq x.text (codes "print")) (reading x.span.start) (calling x.text (count args))
           × ExpsCall names args
@@ -86,7 +88,7 @@ module _ (tree : Tree) (site_of : Place → ℕ) (p : Parts) where
       ExpCalls names (t.list span items) = ExpsCall names items
       ExpCalls names (t.postfix e more) = ExpCalls names e × SelectorsCall names more
       ExpCalls names (t.step is_before op span to) = SpotCalls names true to
-      ExpCalls names (t.unary op span e) = Where (not (is_some (num.negated op e))) (PrefixCalls op span) × ExpCalls names e
+      ExpCalls names (t.unary op span e) = Where (not (is_some (negated op e))) (PrefixCalls op span) × ExpCalls names e
       ExpCalls names (t.chain e more) = ExpCalls names e × LinksCall names more
       ExpCalls names (t.is e denied span x) = ExpCalls names e
       ExpCalls names (t.choice x y z) = ExpCalls names x × ExpCalls names y × ExpCalls names z
@@ -118,8 +120,8 @@ module _ (tree : Tree) (site_of : Place → ℕ) (p : Parts) where
       -- What is assigned to, and whether it is read before. It is a name, a member of `super`, or what a last selector names.
       pub SpotCalls : List Text → Bool → t.Exp → Type 0
       SpotCalls names is_read (t.bare x) =
-          Where is_read (BareCalls (num.scope tree site_of here names x.text) (reading x.span.start) (getting x.text))
-          × BareCalls (num.scope tree site_of here names x.text) (writing x.span.start) (setting x.text)
+          Where is_read (BareCalls (num.owner tree site_of here names x.text) (reading x.span.start) (getting x.text))
+          × BareCalls (num.owner tree site_of here names x.text) (writing x.span.start) (setting x.text)
       SpotCalls names is_read (t.super_get span x) = Where is_read (FindsAbove (getting x.text)) × FindsAbove (setting x.text)
       SpotCalls names is_read (t.postfix e more) = ExpCalls names e × LastCalls names is_read more
       SpotCalls names is_read _ = ⊥
@@ -155,14 +157,14 @@ module _ (tree : Tree) (site_of : Place → ℕ) (p : Parts) where
       StaCalls names (t.while e x) = ExpCalls names e × StaCalls names x
       StaCalls names (t.do_while x e) = StaCalls names x × ExpCalls names e
       StaCalls names (t.for start e last x) =
-          FirstCalls names start × IfCalls (num.after_first tree site_of here names start) e × ExpsCall (num.after_first tree site_of here names start) last
-          × StaCalls (num.after_first tree site_of here names start) x
+          FirstCalls names start × IfCalls (num.after_first names start) e × ExpsCall (num.after_first names start) last
+          × StaCalls (num.after_first names start) x
       StaCalls names (t.return span e) = IfCalls names e
       StaCalls names _ = Unit {0}
 
       pub StasCall : List Text → t.Stas → Type 0
       StasCall names t.done = Unit {0}
-      StasCall names (t.next x more) = StaCalls names x × StasCall (num.after tree site_of here names x) more
+      StasCall names (t.next x more) = StaCalls names x × StasCall (num.after names x) more
 
     -- ---- bodies
 
@@ -189,10 +191,16 @@ module _ (tree : Tree) (site_of : Place → ℕ) (p : Parts) where
   MayBeConstructor class k None = k ≡ no_constructor
   MayBeConstructor class k (Some b) = IsConstructor class k b
 
+  -- a body with its parameters
+  abbrev pub IsCoded : Option Text → List Param → t.Body → Option n.Coded → Type 0
+  IsCoded here params b None = ⊥
+  IsCoded here params b (Some k) = AreParams params k.required k.defaults × IsBody here (num.param_names params) b k.body
+
   abbrev pub IsCode : Code → n.Code → Type 0
-  IsCode (body_of here params b) (n.body_of required defaults x) = AreParams params required defaults × IsBody here (num.param_names params) b x
-  IsCode (constructing class k) (n.constructing number) = MayBeConstructor class k (n.constructor_of p number) × (n.class_above p number ≡ above tree (Some class))
-  IsCode _ _ = ⊥
+  IsCode (body_of here params b) code = IsCoded here params b (n.coded_at p code)
+  IsCode (constructing class k) (n.the_constructor number) =
+      MayBeConstructor class k (n.constructor_of p number) × (n.class_above p number ≡ above tree (Some class))
+  IsCode (constructing class k) _ = ⊥
 
   abbrev pub IsFound : Found Code → Found n.Code → Type 0
   IsFound (built_in k) (built_in m) = m ≡ k
@@ -202,7 +210,7 @@ module _ (tree : Tree) (site_of : Place → ℕ) (p : Parts) where
   IsFound _ _ = ⊥
 
   abbrev pub IsFunction : t.Function → Function → Type 0
-  IsFunction f k = IsCode (body_of None f.params f.body) (n.body_of k.required k.defaults k.body)
+  IsFunction f k = IsCoded None f.params f.body (Some (n.function_coded k))
 
   -- The numbered program stands for the tree.
   pub record Agree : Type 0 where

@@ -1,13 +1,11 @@
 -- The classes and members of a tree, by name; which member a call finds; the numbers of classes.
-use Rattle.std.specs.Prelude.{ℕ, zero, suc, ◌+◌, ◌<◌, ◌≤◌, pos, neg_ℤ, Bool, true, false, IsTrue, not, ◌&&◌, ◌||◌, if◌then◌else◌, nat_lt, nat_le, List, [], ◌∷◌, ◌++◌, length, map, reverse, drop, flat_map, filter_map, count_by, position, slice_get, slice_index_or, Option, Some, None, is_some, unwrap_or, codes}
+use Rattle.std.specs.Prelude.{ℕ, zero, suc, ◌+◌, ◌<◌, ◌≤◌, Bool, true, false, IsTrue, not, ◌&&◌, ◌||◌, if◌then◌else◌, nat_lt, nat_le, List, [], ◌∷◌, ◌++◌, length, map, reverse, drop, flat_map, filter_map, count_by, position, slice_get, slice_index_or, Option, Some, None, is_some, unwrap_or, codes}
 use Rattle.std.specs.Option.{option_map, option_and_then, option_to_list}
 use Rattle.std.specs.List.{list_any}
 use Rattle.std.specs.Str.{bytes_eq}
-use Rattle.dart_syntax.specs.declared.tree.Unary.{Unary}
-use Rattle.dart_syntax.specs.declared.tree.Unary.TheVariants as u
 use Rattle.dart_syntax.specs.declared.tree.Name.{Name}
 use Rattle.dart_syntax.specs.Syntax as t
-use Rattle.dart_syntax.specs.Syntax.{Tree, Exp, Exps, Stas, Param, Body, Function, Local, Member, Passed, ClassDecl, Top}
+use Rattle.dart_syntax.specs.Syntax.{Tree, Exps, Stas, Param, Body, Function, Local, Member, Passed, ClassDecl, Top}
 use Rattle.program.specs.declared.numbered.Class.{Class}
 use Rattle.program.specs.declared.numbered.Method.{Method}
 use Rattle.program.specs.declared.numbered.Selector.{Selector}
@@ -15,8 +13,8 @@ use Rattle.program.specs.declared.numbered.SelectorKind.{SelectorKind}
 use Rattle.program.specs.declared.numbered.SelectorKind.TheVariants.{Call, Get, Set}
 use Rattle.program.specs.BuiltIn.{built_in_classes, built_in_members}
 use Rattle.program.specs.Lookup.{declared}
-use Rattle.dart_values.specs.Values.{Text, Value, null, bool, num, text}
-use Rattle.dart_values.specs.Numbers.{wrap}
+use Rattle.dart_values.specs.Values.{Text}
+use Rattle.dart_meaning.specs.Literals.{literal_or_null}
 use Rattle.dart_meaning.specs.Operators.{operator_name}
 use Rattle.dart_meaning.specs.Program.{Found, built_in, reads, writes, coded, Program}
 
@@ -63,25 +61,6 @@ function_named tree name = first_some (map (λ (f : Function). if_so (bytes_eq f
 -- a variable's place among the variables
 abbrev pub variable_place : Tree → Text → Option ℕ
 variable_place tree name = position (λ (v : Local). bytes_eq v.name.text name) (variables tree)
-
--- ---- literals
-
--- A minus directly before a number is part of the number: it is wrapped, and calls nothing.
-abbrev pub negated : Unary → Exp → Option Value
-negated u.Minus (t.int n span) = Some (num (wrap (neg_ℤ n)))
-negated u.Minus (t.min_int span) = Some (num (neg_ℤ (pos 9223372036854775808)))
-negated _ _ = None
-
-abbrev pub literal : Exp → Value
-literal (t.bool x span) = bool x
-literal (t.int n span) = num n
-literal (t.str units span) = text units
-literal (t.unary op span e) = unwrap_or (negated op e) null
-literal _ = null
-
--- null where none is written
-abbrev pub literal_or_null : Option Exp → Value
-literal_or_null e = unwrap_or (option_map literal e) null
 
 -- ---- the hierarchy, by names
 
@@ -133,9 +112,14 @@ abbrev pub field_of : Member → Option Local
 field_of (t.field f) = Some f
 field_of _ = None
 
+-- the fields that a declaration of a class has
+abbrev pub declared_fields : Option ClassDecl → List Local
+declared_fields None = []
+declared_fields (Some c) = filter_map field_of c.members
+
 -- the fields that a class itself declares
 abbrev pub own_fields : Tree → Text → List Local
-own_fields tree class = unwrap_or (option_map (λ (c : ClassDecl). filter_map field_of c.members) (class_named tree class)) []
+own_fields tree class = declared_fields (class_named tree class)
 
 -- those of the classes above it, the highest class's before all
 abbrev pub fields_above : Tree → Text → List Local
@@ -240,10 +224,14 @@ is_member name (t.getter n body) = bytes_eq n.text name
 is_member name (t.setter n param body) = bytes_eq n.text name
 is_member name _ = false
 
+-- the class declares a member of this name
+abbrev pub is_own_member : Option ClassDecl → Text → Bool
+is_own_member None name = false
+is_own_member (Some c) name = list_any (is_member name) c.members
+
 -- whether the class that holds a body, if any, declares such a member itself
 abbrev pub class_declares : Tree → Option Text → Text → Bool
-class_declares tree here name =
-    list_any (is_member name) (unwrap_or (option_map (λ (c : ClassDecl). c.members) (option_and_then (class_named tree) here)) [])
+class_declares tree here name = is_own_member (option_and_then (class_named tree) here) name
 
 -- ---- the numbers of classes
 

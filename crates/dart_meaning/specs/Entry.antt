@@ -6,8 +6,9 @@ use Rattle.dart_syntax.specs.Syntax.{Tree, Function, Local}
 use Rattle.dart_values.specs.Values.{Text, Value, null}
 use Rattle.dart_meaning.specs.Place.{Place}
 use Rattle.dart_meaning.specs.Program.{Entry, running, listing}
-use Rattle.dart_meaning.specs.Classes.{Code, body_of, constructing, functions, variables, literal_or_null, first_some, if_so}
-use Rattle.dart_meaning.specs.Run.{Run, Ending, done, stack_overflow, Result, went, ended, M, ◌>>◌, stop, spend, framed}
+use Rattle.dart_meaning.specs.Classes.{Code, body_of, constructing, functions, variables, first_some, if_so}
+use Rattle.dart_meaning.specs.Literals.{literal_or_null}
+use Rattle.dart_meaning.specs.Run.{Run, Store, Ending, done, stack_overflow, Result, went, ended, M, ◌>>◌, stop, spend, framed}
 use Rattle.dart_meaning.specs.Calls as calls
 use Rattle.dart_meaning.specs.Meaning.{Bound, bind, world, body_value, build}
 
@@ -19,7 +20,7 @@ module _ (tree : Tree) (site_of : Place → ℕ) (enter : Entry Code → M Bound
 
   abbrev pub inside : Entry Code → M Bound Value
   inside (running code me args) = inside_code code me args
-  inside (listing v) = calls.list_text (world tree site_of None enter) v
+  inside (listing v) = framed [] v (calls.list_text (world tree site_of None enter) v)
 
 -- What stands so many levels above the greatest depth. An entry spends its turn first, and then has to have a level left.
 unfoldable pub enter : Tree → (Place → ℕ) → ℕ → Entry Code → M Bound Value
@@ -31,8 +32,11 @@ abbrev pub greatest_depth : ℕ
 greatest_depth = 2000
 
 -- An isolate begins with an empty heap, with the variables of the unit at their literals, and with its turns.
+abbrev pub first_store : List Value → ℕ → Store
+first_store globals turns = record { heap = []; globals = globals; lines = []; turns = turns; asked = []; tests = [] }
+
 abbrev pub start : {V : Type 0} → List Value → ℕ → Run V
-start globals turns = record { vars = []; this = null; heap = []; globals = globals; lines = []; turns = turns; asked = []; tests = [] }
+start globals turns = record { vars = []; this = null; store = first_store globals turns }
 
 abbrev pub globals_of : Tree → List Value
 globals_of tree = map (λ (v : Local). literal_or_null v.value) (variables tree)
@@ -49,20 +53,20 @@ pub record Meaning : Type 0 where
   pub tests : List (ℕ × ℕ)
 
 -- Lines, calls and tests count however the entry ends.
-abbrev pub told : {V : Type 0} → Ending → Run V → Meaning
-told ending r = record { lines = r.lines; ending = ending; asked = r.asked; tests = r.tests }
+abbrev pub told : Ending → Store → Meaning
+told ending s = record { lines = s.lines; ending = ending; asked = s.asked; tests = s.tests }
 
 abbrev pub seen : {V A : Type 0} → Result V A → Meaning
-seen (went a r) = told done r
-seen (ended e r) = told e r
+seen (went a r) = told done r.store
+seen (ended e r) = told e r.store
 
 abbrev pub entry_meaning : Tree → (Place → ℕ) → Function → ℕ → Meaning
 entry_meaning tree site_of f turns = seen (entry_run tree site_of greatest_depth f turns)
 
 -- the turns that are left in the end, and those that were spent
 abbrev pub left : {V A : Type 0} → Result V A → ℕ
-left (went a r) = r.turns
-left (ended e r) = r.turns
+left (went a r) = r.store.turns
+left (ended e r) = r.store.turns
 
 abbrev pub turns_spent : Tree → (Place → ℕ) → Function → ℕ → ℕ
 turns_spent tree site_of f turns = turns - left (entry_run tree site_of greatest_depth f turns)

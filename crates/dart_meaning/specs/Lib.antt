@@ -1,6 +1,7 @@
 pub mod Place
 pub mod Program
 pub mod Operators
+pub mod Literals
 pub mod Classes
 pub mod Run
 pub mod Calls
@@ -13,3 +14,5 @@ pub mod Uses
 pub mod Means
 pub mod Sites
 pub mod Agree
+pub mod Forms
+pub mod NumberedForm

@@ -9,14 +9,16 @@ use Rattle.dart_syntax.specs.declared.tree.Unary.TheVariants as u
 use Rattle.dart_syntax.specs.Syntax as t
 use Rattle.dart_syntax.specs.Syntax.{Tree, Exp, Exps, Pieces, Links, Selectors, Selector as Selecting, Local, First, Sta, Stas, Param, Body, Function}
 use Rattle.program.specs.declared.numbered.Selector.{Selector}
-use Rattle.program.specs.declared.body.Binary.{Binary}
+use Rattle.program.specs.declared.body.BinaryOperator.{BinaryOperator}
+use Rattle.dart_syntax.specs.declared.tree.Assignment.{Assignment}
 use Rattle.dart_values.specs.declared.fault.Trap.TheVariants as trap
 use Rattle.dart_values.specs.Values.{Text, Value, null, bool, num, text, list}
 use Rattle.dart_meaning.specs.Place.{Place, reading, writing, in_print, in_list}
-use Rattle.dart_meaning.specs.Operators.{operator_of, compound, step_operator}
+use Rattle.dart_meaning.specs.Operators.{joint_of, operator_call, compound, step_operator}
+use Rattle.dart_meaning.specs.Literals.{literal, negated, literal_or_null}
 use Rattle.dart_meaning.specs.Program.{Entry, running, resolve, calling, getting, setting}
-use Rattle.dart_meaning.specs.Classes.{Code, body_of, Constructor, object, parent, negated, literal_or_null, class_declares, class_number, is_constructed, field_place, function_named, variable_place, of_tree}
-use Rattle.dart_meaning.specs.Run.{Run, M, ◌>>=◌, ◌>>◌, pure, trapped, look, change, choose, need_bool, new, set_field, declare, scoped, framed, Flow, onward, broke, continued, returned, if_onward, answer, while_loop, do_loop}
+use Rattle.dart_meaning.specs.Classes.{Code, body_of, Constructor, object, parent, class_declares, class_number, is_constructed, field_place, function_named, variable_place, of_tree}
+use Rattle.dart_meaning.specs.Run.{Run, M, ◌>>=◌, ◌>>◌, pure, trapped, look, change, choose, need_bool, new, set_field, declare, scoped, framed, in_store, Flow, onward, broke, continued, returned, if_onward, answer, while_loop, do_loop}
 use Rattle.dart_meaning.specs.Calls as calls
 use Rattle.dart_meaning.specs.Calls.{World}
 
@@ -46,22 +48,27 @@ abbrev pub count : Exps → ℕ
 count t.no_more = 0
 count (t.also e more) = suc (count more)
 
--- What a bare name is: a local or a parameter; a member of `this`; a variable of the unit.
-pub data Scope : Type 0 where
-  of_body of_this of_unit : Scope
+-- What a bare name is of: the body, as a local or a parameter; `this`, as a member; the unit, as a variable.
+pub data Owner : Type 0 where
+  of_body of_this of_unit : Owner
 
 -- A local or a parameter comes first, then a member that the enclosing class declares, then a variable; else the name is one of `this`.
-abbrev pub scope_by : Bool → Bool → Bool → Scope
-scope_by true is_member is_variable = of_body
-scope_by false true is_variable = of_this
-scope_by false false true = of_unit
-scope_by false false false = of_this
+abbrev pub owner_by : Bool → Bool → Bool → Owner
+owner_by true is_member is_variable = of_body
+owner_by false true is_variable = of_this
+owner_by false false true = of_unit
+owner_by false false false = of_this
 
--- what is assigned to, with its receiver and index evaluated
-pub data Spot : Type 0 where
-  local_spot unit_spot super_spot : Name → Spot
-  member_spot : Value → Name → Spot
-  element_spot : Value → Span → Value → Spot
+-- what is read or written, with its receiver and index evaluated
+pub data Destination : Type 0 where
+  at_local at_unit at_super : Name → Destination
+  at_member : Value → Name → Destination
+  at_element : Value → Span → Value → Destination
+
+-- In a constructor's body the name of a parameter `this.x` means the field, so the variable has no name there. The last parameter is the newest variable.
+abbrev pub unnamed : List Param → List Bound → List Bound
+unnamed (p ∷ more) (b ∷ vars) = choose p.is_field (record b { name = [] }) b ∷ unnamed more vars
+unnamed _ vars = vars
 
 -- `site_of` numbers the sites. `here` is the class that holds the text, if any. `enter` does what stands one level deeper.
 module _ (tree : Tree) (site_of : Place → ℕ) (here : Option Text) (enter : Entry Code → M Bound Value) where
@@ -103,55 +110,55 @@ module _ (tree : Tree) (site_of : Place → ℕ) (here : Option Text) (enter : E
 
   -- ---- names and what is assigned to
 
-  abbrev pub scope_of : Run Bound → Text → Scope
-  scope_of r name = scope_by (is_some (find name r.vars)) (class_declares tree here name) (is_some (variable_place tree name))
+  abbrev pub owner_of : Run Bound → Text → Owner
+  owner_of r name = owner_by (is_some (find name r.vars)) (class_declares tree here name) (is_some (variable_place tree name))
 
-  abbrev pub spot_in : Scope → Name → M Bound Spot
-  spot_in of_body n = pure (local_spot n)
-  spot_in of_unit n = pure (unit_spot n)
-  spot_in of_this n = this >>= (λ me. pure (member_spot me n))
+  abbrev pub destination_of : Owner → Name → M Bound Destination
+  destination_of of_body n = pure (at_local n)
+  destination_of of_unit n = pure (at_unit n)
+  destination_of of_this n = this >>= (λ me. pure (at_member me n))
 
-  abbrev pub bare_spot : Name → M Bound Spot
-  bare_spot n = look (λ r. scope_of r n.text) >>= (λ scope. spot_in scope n)
+  abbrev pub bare : Name → M Bound Destination
+  bare n = look (λ r. owner_of r n.text) >>= (λ owner. destination_of owner n)
 
   -- the place of a variable of the unit
   abbrev pub variable : Name → ℕ
   variable n = unwrap_or (variable_place tree n.text) 0
 
-  abbrev pub read_spot : Spot → M Bound Value
-  read_spot (local_spot n) = look (λ r. unwrap_or (find n.text r.vars) null)
-  read_spot (unit_spot n) = look (λ r. slice_index_or r.globals (variable n) null)
-  read_spot (super_spot n) = super_member (getting n.text) []
-  read_spot (member_spot v n) = get n v
-  read_spot (element_spot v span i) = element span v i
+  abbrev pub read : Destination → M Bound Value
+  read (at_local n) = look (λ r. unwrap_or (find n.text r.vars) null)
+  read (at_unit n) = look (λ r. slice_index_or r.store.globals (variable n) null)
+  read (at_super n) = super_member (getting n.text) []
+  read (at_member v n) = get n v
+  read (at_element v span i) = element span v i
 
   -- What a setter, `[]=` or `noSuchMethod` answers is dropped.
-  abbrev pub write_spot : Spot → Value → M Bound Value
-  write_spot (local_spot n) w = change (λ r. record r { vars = put n.text w r.vars }) >> pure null
-  write_spot (unit_spot n) w = change (λ r. record r { globals = slice_set r.globals (variable n) w }) >> pure null
-  write_spot (super_spot n) w = super_member (setting n.text) (w ∷ [])
-  write_spot (member_spot v n) w = calls.send world (writing_site n.span) (setting n.text) v (w ∷ [])
-  write_spot (element_spot v span i) w = calls.send world (writing_site span) (calling (codes "[]=") 2) v (i ∷ w ∷ [])
+  abbrev pub write : Destination → Value → M Bound Value
+  write (at_local n) w = change (λ r. record r { vars = put n.text w r.vars }) >> pure null
+  write (at_unit n) w = change (in_store (λ s. record s { globals = slice_set s.globals (variable n) w })) >> pure null
+  write (at_super n) w = super_member (setting n.text) (w ∷ [])
+  write (at_member v n) w = calls.send world (writing_site n.span) (setting n.text) v (w ∷ [])
+  write (at_element v span i) w = calls.send world (writing_site span) (calling (codes "[]=") 2) v (i ∷ w ∷ [])
 
   -- A compound assignment reads, evaluates the right side, calls the operator, and writes; its value is the operator's answer.
-  abbrev pub assign : Option Binary → Span → Spot → M Bound Value → M Bound Value
-  assign None span spot right = do
+  abbrev pub assign : Option BinaryOperator → Span → Destination → M Bound Value → M Bound Value
+  assign None span to right = do
     v ← right
-    write_spot spot v
+    write to v
     pure v
-  assign (Some op) span spot right = do
-    old ← read_spot spot
+  assign (Some op) span to right = do
+    old ← read to
     v ← right
-    w ← calls.operate world (site span) op old v
-    write_spot spot w
+    w ← calls.operate world (operator_call op (site span)) old v
+    write to w
     pure w
 
   -- `++` and `--` add or take 1; the value is the new one before the target, and the old one behind it.
-  abbrev pub stepped : Bool → Binary → Span → Spot → M Bound Value
-  stepped is_before op span spot = do
-    old ← read_spot spot
-    w ← calls.operate world (site span) op old (num (pos 1))
-    write_spot spot w
+  abbrev pub increment : Bool → BinaryOperator → Span → Destination → M Bound Value
+  increment is_before op span to = do
+    old ← read to
+    w ← calls.operate world (operator_call op (site span)) old (num (pos 1))
+    write to w
     pure (choose is_before w old)
 
   -- ---- bare calls
@@ -164,7 +171,7 @@ module _ (tree : Tree) (site_of : Place → ℕ) (here : Option Text) (enter : E
   call_unit n k args (Some f) = args >>= (λ vs. enter (running (body_of None f.params f.body) null vs))
   call_unit n k args None =
       choose (is_constructed tree n.text) (args >>= calls.make world (class_number tree n.text))
-      (choose (bytes_eq n.text (codes "print")) (args >>= calls.print world) (call_this n k args))
+      (choose (bytes_eq n.text (codes "print")) (args >>= (λ vs. calls.print world (calls.argument 0 vs))) (call_this n k args))
 
   -- A member that the enclosing class declares comes before all of these.
   abbrev pub call_bare : Name → ℕ → M Bound (List Value) → M Bound Value
@@ -173,8 +180,8 @@ module _ (tree : Tree) (site_of : Place → ℕ) (here : Option Text) (enter : E
   -- ---- expressions
 
   -- No tree has an assignment to anything else.
-  abbrev pub no_spot : M Bound Spot
-  no_spot = trapped trap.TypeFault
+  abbrev pub no_destination : M Bound Destination
+  no_destination = trapped trap.TypeFault
 
   abbrev mutual
     pub value : Exp → M Bound Value
@@ -185,21 +192,21 @@ module _ (tree : Tree) (site_of : Place → ℕ) (here : Option Text) (enter : E
     value (t.this span) = this
     value (t.str units span) = pure (text units)
     value (t.joined units span more) = texts span more >>= (λ rest. pure (text (units ++ rest)))
-    value (t.bare n) = bare_spot n >>= read_spot
+    value (t.bare n) = bare n >>= read
     value (t.call n args) = call_bare n (count args) (values args)
     value (t.super_get span n) = super_member (getting n.text) []
     value (t.super_call span n args) = values args >>= super_member (calling n.text (count args))
     value (t.paren e) = value e
     value (t.list span items) = values items >>= (λ vs. new (list vs))
-    value (t.postfix e more) = selected (value e) more
-    value (t.step is_before op span to) = spot_of to >>= stepped is_before (step_operator op) span
-    value (t.unary op span e) = unwrap_or (option_map pure (negated op e)) (value e >>= prefixed op span)
+    value (t.postfix e more) = value e >>= (λ v. selected v more)
+    value (t.step is_before op span to) = destination to >>= increment is_before (step_operator op) span
+    value (t.unary op span e) = unwrap_or (option_map (λ k. pure (literal k)) (negated op e)) (value e >>= prefixed op span)
     value (t.chain e more) = value e >>= (λ v. linked v more)
     value (t.is e denied span n) =
-        value e >>= (λ v. calls.is_of world v (class_number tree n.text)) >>= (λ holds. pure (bool (choose denied (not holds) holds)))
+        value e >>= (λ v. calls.is_of (of_tree tree) v (class_number tree n.text)) >>= (λ holds. pure (bool (choose denied (not holds) holds)))
     value (t.choice c x y) = value c >>= need_bool >>= (λ go. choose go (value x) (value y))
-    value (t.assign to op span e) = spot_of to >>= (λ spot. assign (compound op) span spot (value e))
-    value (t.throw span e) = value e >>= calls.throw world
+    value (t.assign to op span e) = destination to >>= (λ at. assign (compound op) span at (value e))
+    value (t.throw span e) = value e >>= calls.throw (of_tree tree)
 
     -- from left to right
     pub values : Exps → M Bound (List Value)
@@ -218,11 +225,12 @@ module _ (tree : Tree) (site_of : Place → ℕ) (here : Option Text) (enter : E
     -- the operators of a chain
     pub linked : Value → Links → M Bound Value
     linked v t.no_link = pure v
-    linked v (t.link op span e more) = calls.combine world (operator_of op) (site span) v (value e) >>= (λ w. linked w more)
+    linked v (t.link op span e more) = calls.combine world (joint_of op (site span)) v (value e) >>= (λ w. linked w more)
 
-    pub selected : M Bound Value → Selectors → M Bound Value
-    selected m t.no_selector = m
-    selected m (t.select s more) = selected (m >>= select s) more
+    -- selectors, each on what the one before it answered
+    pub selected : Value → Selectors → M Bound Value
+    selected v t.no_selector = pure v
+    selected v (t.select s more) = select s v >>= (λ w. selected w more)
 
     pub select : Selecting → Value → M Bound Value
     select (t.get n) v = get n v
@@ -230,21 +238,21 @@ module _ (tree : Tree) (site_of : Place → ℕ) (here : Option Text) (enter : E
     select (t.index span e) v = value e >>= element span v
 
     -- a name, a member of `super`, or what the last selector names
-    pub spot_of : Exp → M Bound Spot
-    spot_of (t.bare n) = bare_spot n
-    spot_of (t.super_get span n) = pure (super_spot n)
-    spot_of (t.postfix e more) = selected_spot (value e) more
-    spot_of _ = no_spot
+    pub destination : Exp → M Bound Destination
+    destination (t.bare n) = bare n
+    destination (t.super_get span n) = pure (at_super n)
+    destination (t.postfix e more) = value e >>= (λ v. last_of v more)
+    destination _ = no_destination
 
-    pub selected_spot : M Bound Value → Selectors → M Bound Spot
-    selected_spot m t.no_selector = no_spot
-    selected_spot m (t.select s t.no_selector) = m >>= select_spot s
-    selected_spot m (t.select s (t.select x more)) = selected_spot (m >>= select s) (t.select x more)
+    pub last_of : Value → Selectors → M Bound Destination
+    last_of v t.no_selector = no_destination
+    last_of v (t.select s t.no_selector) = named_by s v
+    last_of v (t.select s (t.select x more)) = select s v >>= (λ w. last_of w (t.select x more))
 
-    pub select_spot : Selecting → Value → M Bound Spot
-    select_spot (t.get n) v = pure (member_spot v n)
-    select_spot (t.send n args) v = no_spot
-    select_spot (t.index span e) v = value e >>= (λ i. pure (element_spot v span i))
+    pub named_by : Selecting → Value → M Bound Destination
+    named_by (t.get n) v = pure (at_member v n)
+    named_by (t.send n args) v = no_destination
+    named_by (t.index span e) v = value e >>= (λ i. pure (at_element v span i))
 
   abbrev pub test : Exp → M Bound Bool
   test e = value e >>= need_bool
@@ -302,16 +310,15 @@ module _ (tree : Tree) (site_of : Place → ℕ) (here : Option Text) (enter : E
       choose p.is_field (set_field me (field_place tree class p.name.text) b.holds) (pure tt) >> set_fields class me more vars
   set_fields class me _ _ = pure tt
 
-  -- They are no variables of the body.
-  abbrev pub without_fields : List Param → List Bound → List Bound
-  without_fields (p ∷ more) (b ∷ vars) = choose p.is_field (without_fields more vars) (b ∷ without_fields more vars)
-  without_fields _ _ = []
-
-  -- A constructor sets its fields, evaluates what it passes on, enters the superclass's constructor, and runs its body.
-  abbrev pub build : Text → Constructor → Value → List Bound → M Bound Value
-  build class c me vars = do
+  -- All that a constructor does has one frame, with each parameter as a variable. It sets its fields, evaluates what it passes on, enters the superclass's constructor, and runs its body.
+  abbrev pub building : Text → Constructor → Value → List Bound → M Bound Value
+  building class c me vars = do
     set_fields class me c.params vars
-    passed ← framed (reverse vars) null (values c.passes)
+    passed ← values c.passes
     calls.construct world ((of_tree tree).constructor class_above) me passed
-    framed (reverse (without_fields c.params vars)) me (doing_all c.body)
+    change (λ r. record r { vars = unnamed (reverse c.params) r.vars })
+    doing_all c.body
     pure me
+
+  abbrev pub build : Text → Constructor → Value → List Bound → M Bound Value
+  build class c me vars = framed (reverse vars) me (building class c me vars)

@@ -9,7 +9,7 @@ use Rattle.program.specs.declared.numbered.SelectorKind.{SelectorKind}
 use Rattle.dart_values.specs.Values.{Text}
 use Rattle.dart_meaning.specs.declared.seen.Seen.{Seen}
 use Rattle.dart_meaning.specs.declared.seen.Seen.TheVariants.{Late, Ready}
-use Rattle.dart_meaning.specs.Classes.{built_in_names, class_named, is_member, chain_above, own, Taking, first_some}
+use Rattle.dart_meaning.specs.Classes.{built_in_names, class_named, is_own_member, chain_above, own, Taking, first_some}
 use Rattle.dart_meaning.specs.Uses.{Kind, of_function, of_member, of_passed, of_constructor, Part}
 
 -- ---- names of declarations
@@ -44,11 +44,6 @@ has_this of_function = false
 has_this of_member = true
 has_this of_passed = false
 has_this of_constructor = true
-
--- the class that holds the body declares a member of this name
-abbrev pub is_own_member : Option ClassDecl → Text → Bool
-is_own_member None name = false
-is_own_member (Some c) name = list_any (is_member name) c.members
 
 -- what `super` reaches: the first member with a body of the classes above the one that holds the body
 abbrev pub super_member : Tree → Option ClassDecl → SelectorKind → Text → Option Taking

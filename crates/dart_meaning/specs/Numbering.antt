@@ -1,5 +1,5 @@
 -- The numbered form of the bodies of a tree: slots for variables, numbers for static targets, and sites by number.
-use Rattle.std.specs.Prelude.{ℕ, suc, ◌-◌, pos, neg_ℤ, Bool, true, false, not, if◌then◌else◌, ◌&&◌, List, [], ◌∷◌, ◌++◌, length, map, reverse, flat_map, find, filter_map, position, Option, Some, None, is_some, unwrap_or, codes}
+use Rattle.std.specs.Prelude.{ℕ, suc, ◌-◌, Bool, true, if◌then◌else◌, ◌&&◌, List, [], ◌∷◌, ◌++◌, length, map, reverse, flat_map, find, position, Option, Some, None, is_some, unwrap_or, codes}
 use Rattle.std.specs.Option.{option_map}
 use Rattle.std.specs.Str.{bytes_eq}
 use Rattle.dart_syntax.specs.declared.token.Span.{Span}
@@ -10,21 +10,19 @@ use Rattle.dart_syntax.specs.Syntax as t
 use Rattle.dart_syntax.specs.Syntax.{Tree, Param, ClassDecl, Member, Function}
 use Rattle.program.specs.declared.literal.Literal.{Literal}
 use Rattle.program.specs.declared.literal.Literal.TheVariants as l
-use Rattle.program.specs.declared.body.Binary.{Binary}
-use Rattle.program.specs.declared.body.Compound.{Compound}
+use Rattle.program.specs.declared.body.BinaryOperator.{BinaryOperator}
 use Rattle.program.specs.declared.numbered.Method.{Method}
 use Rattle.program.specs.declared.numbered.SelectorKind.{SelectorKind}
 use Rattle.program.specs.declared.numbered.SelectorKind.TheVariants.{Call, Get, Set}
 use Rattle.program.specs.Bodies as c
 use Rattle.program.specs.BuiltIn.{built_in_members}
 use Rattle.program.specs.Lookup.{same_kind}
-use Rattle.program.specs.Sound.{is_lazy}
 use Rattle.dart_values.specs.Values.{Text}
-use Rattle.dart_values.specs.Numbers.{wrap}
 use Rattle.dart_meaning.specs.Place.{Place, reading, writing}
-use Rattle.dart_meaning.specs.Operators.{operator_of, compound, step_operator, operator_name}
+use Rattle.dart_meaning.specs.Operators.{joint_of, operator_call, compound, step_operator, operator_name}
+use Rattle.dart_meaning.specs.Literals.{negated}
 use Rattle.dart_meaning.specs.Classes.{classes, functions, own, chain_above, class_number, class_name, class_declares, is_constructed, variable_place, field_place}
-use Rattle.dart_meaning.specs.Meaning.{Scope, of_body, of_this, of_unit, scope_by}
+use Rattle.dart_meaning.specs.Meaning.{Owner, of_body, of_this, of_unit, owner_by}
 
 -- ---- the numbers of members
 
@@ -67,11 +65,26 @@ abbrev pub index_of : Text → List Text → Option ℕ
 index_of name [] = None
 index_of name (x ∷ more) = if bytes_eq x name then Some 0 else option_map suc (index_of name more)
 
--- a minus directly before a number, as the number
-abbrev pub negated : Unary → t.Exp → Option Literal
-negated u.Minus (t.int n span) = Some (l.Int (wrap (neg_ℤ n)))
-negated u.Minus (t.min_int span) = Some (l.Int (neg_ℤ (pos 9223372036854775808)))
-negated _ _ = None
+-- the names that are open behind the first part of a `for`, and behind a statement
+abbrev pub after_first : List Text → t.First → List Text
+after_first names (t.local_first x) = x.name.text ∷ names
+after_first names _ = names
+
+abbrev pub after : List Text → t.Sta → List Text
+after names (t.local x) = x.name.text ∷ names
+after names _ = names
+
+-- What is assigned to, by its slot or number, its name, or its receiver and index; an assignment writes it, and a compound one reads it before.
+pub data Assignable : Type 0 where
+  a_local a_global : ℕ → Assignable
+  a_super : Text → Assignable
+  a_member : c.Exp → Span → Assignable
+  an_element : c.Exp → c.Exp → Span → Assignable
+
+-- what `print` prints
+abbrev pub printed : c.Exps → c.Exp
+printed c.no_more = c.constant l.Null
+printed (c.also e more) = e
 
 module _ (tree : Tree) (site_of : Place → ℕ) (here : Option Text) where
   abbrev pub site : Span → ℕ
@@ -79,14 +92,6 @@ module _ (tree : Tree) (site_of : Place → ℕ) (here : Option Text) where
 
   abbrev pub writing_site : Span → ℕ
   writing_site span = site_of (writing span.start)
-
-  -- where a read is wanted too
-  abbrev pub if_reads : Bool → ℕ → Option ℕ
-  if_reads true s = Some s
-  if_reads false s = None
-
-  abbrev pub operating : Binary → Span → Compound
-  operating op span = record { operator = op; site = record { 0 = site span } }
 
   -- the first class above with such a member
   abbrev pub super_class : SelectorKind → Text → Text
@@ -99,43 +104,67 @@ module _ (tree : Tree) (site_of : Place → ℕ) (here : Option Text) where
   abbrev pub slot : List Text → Text → ℕ
   slot names name = length names - suc (unwrap_or (index_of name names) 0)
 
-  abbrev pub scope : List Text → Text → Scope
-  scope names name = scope_by (is_some (index_of name names)) (class_declares tree here name) (is_some (variable_place tree name))
+  abbrev pub owner : List Text → Text → Owner
+  owner names name = owner_by (is_some (index_of name names)) (class_declares tree here name) (is_some (variable_place tree name))
 
   abbrev pub variable : Text → ℕ
   variable name = unwrap_or (variable_place tree name) 0
 
-  abbrev pub bare : List Text → Scope → Name → c.Exp
+  -- one call on a receiver
+  abbrev pub one_call : Span → c.Exp → c.Exps → c.Exp
+  one_call span e args = c.postfix e (c.call (site span) args c.no_call)
+
+  abbrev pub bare : List Text → Owner → Name → c.Exp
   bare names of_body x = c.local (slot names x.text)
   bare names of_unit x = c.global (variable x.text)
-  bare names of_this x = c.send (site x.span) c.this c.no_more
-
-  abbrev pub bare_spot : List Text → Bool → Scope → Name → c.Spot
-  bare_spot names reads of_body x = c.local_spot (slot names x.text)
-  bare_spot names reads of_unit x = c.global_spot (variable x.text)
-  bare_spot names reads of_this x = c.member_spot c.this (if_reads reads (site x.span)) (writing_site x.span)
+  bare names of_this x = one_call x.span c.this c.no_more
 
   abbrev pub prefixed : Unary → Span → c.Exp → c.Exp
-  prefixed u.Minus span e = c.send (site span) e c.no_more
-  prefixed u.Complement span e = c.send (site span) e c.no_more
-  prefixed u.Not span e = c.deny e
+  prefixed u.Minus span e = one_call span e c.no_more
+  prefixed u.Complement span e = one_call span e c.no_more
+  prefixed u.Not span e = c.not e
 
   abbrev pub unary : Option Literal → c.Exp → c.Exp
   unary None e = e
   unary (Some k) e = c.constant k
 
   abbrev pub call_unit : Name → c.Exps → Option ℕ → c.Exp
-  call_unit x args (Some f) = c.function f args
+  call_unit x args (Some f) = c.call_function f args
   call_unit x args None =
-      if is_constructed tree x.text then c.make (class_number tree x.text) args
-      else (if bytes_eq x.text (codes "print") then c.print args else c.send (site x.span) c.this args)
+      if is_constructed tree x.text then c.new (class_number tree x.text) args
+      else (if bytes_eq x.text (codes "print") then c.print (printed args) else one_call x.span c.this args)
 
   abbrev pub call : Name → c.Exps → c.Exp
-  call x args = if class_declares tree here x.text then c.send (site x.span) c.this args else call_unit x args (function_number tree x.text)
+  call x args = if class_declares tree here x.text then one_call x.span c.this args else call_unit x args (function_number tree x.text)
+
+  -- ---- what is assigned to
+
+  abbrev pub target_of : Assignable → c.Target
+  target_of (a_local k) = c.to_local k
+  target_of (a_global k) = c.to_global k
+  target_of (a_super name) = c.to_super (super_number Set name)
+  target_of (a_member e span) = c.to_member e (writing_site span)
+  target_of (an_element e i span) = c.to_element e i (writing_site span)
+
+  abbrev pub update_of : Assignable → c.Update
+  update_of (a_local k) = c.of_local k
+  update_of (a_global k) = c.of_global k
+  update_of (a_super name) = c.of_super (super_number Get name) (super_number Set name)
+  update_of (a_member e span) = c.of_member e (site span) (writing_site span)
+  update_of (an_element e i span) = c.of_element e i (site span) (writing_site span)
+
+  abbrev pub assigned : Option BinaryOperator → Span → Assignable → c.Exp → c.Exp
+  assigned None span to e = c.assign (target_of to) e
+  assigned (Some op) span to e = c.compound_assign (update_of to) (operator_call op (site span)) e
+
+  abbrev pub bare_assignable : List Text → Owner → Name → Assignable
+  bare_assignable names of_body x = a_local (slot names x.text)
+  bare_assignable names of_unit x = a_global (variable x.text)
+  bare_assignable names of_this x = a_member c.this x.span
 
   -- No tree has another target.
-  abbrev pub no_spot : c.Spot
-  no_spot = c.local_spot 0
+  abbrev pub no_target : Assignable
+  no_target = a_local 0
 
   abbrev mutual
     pub exp : List Text → t.Exp → c.Exp
@@ -145,20 +174,20 @@ module _ (tree : Tree) (site_of : Place → ℕ) (here : Option Text) where
     exp names (t.min_int span) = c.constant l.Null
     exp names (t.this span) = c.this
     exp names (t.str units span) = c.constant (l.Str units)
-    exp names (t.joined units span more) = c.str units (pieces names span more)
-    exp names (t.bare x) = bare names (scope names x.text) x
+    exp names (t.joined units span more) = c.interpolation units (pieces names span more)
+    exp names (t.bare x) = bare names (owner names x.text) x
     exp names (t.call x args) = call x (exps names args)
-    exp names (t.super_get span x) = c.above (super_number Get x.text) c.no_more
-    exp names (t.super_call span x args) = c.above (super_number Call x.text) (exps names args)
+    exp names (t.super_get span x) = c.super (super_number Get x.text) c.no_more
+    exp names (t.super_call span x args) = c.super (super_number Call x.text) (exps names args)
     exp names (t.paren e) = exp names e
     exp names (t.list span items) = c.list_of (exps names items)
-    exp names (t.postfix e more) = selected names (exp names e) more
-    exp names (t.step is_before op span to) = c.step is_before (operating (step_operator op) span) (spot names true to)
+    exp names (t.postfix e more) = c.postfix (exp names e) (selected names more)
+    exp names (t.step is_before op span to) = c.increment is_before (operator_call (step_operator op) (site span)) (update_of (assignable names to))
     exp names (t.unary op span e) = unary (negated op e) (prefixed op span (exp names e))
     exp names (t.chain e more) = c.chain (exp names e) (links names more)
     exp names (t.is e denied span x) = c.is (exp names e) denied (class_number tree x.text)
-    exp names (t.choice x y z) = c.choice (exp names x) (exp names y) (exp names z)
-    exp names (t.assign to op span e) = c.assign (spot names (is_some (compound op)) to) (option_map (λ o. operating o span) (compound op)) (exp names e)
+    exp names (t.choice x y z) = c.conditional (exp names x) (exp names y) (exp names z)
+    exp names (t.assign to op span e) = assigned (compound op) span (assignable names to) (exp names e)
     exp names (t.throw span e) = c.throw (exp names e)
 
     pub exps : List Text → t.Exps → c.Exps
@@ -171,32 +200,39 @@ module _ (tree : Tree) (site_of : Place → ℕ) (here : Option Text) where
 
     pub links : List Text → t.Links → c.Links
     links names t.no_link = c.no_link
-    links names (t.link op span e more) = c.link (operator_of op) (if_reads (not (is_lazy (operator_of op))) (site span)) (exp names e) (links names more)
+    links names (t.link op span e more) = c.link (joint_of op (site span)) (exp names e) (links names more)
 
-    pub selected : List Text → c.Exp → t.Selectors → c.Exp
-    selected names e t.no_selector = e
-    selected names e (t.select s more) = selected names (select names e s) more
+    pub selected : List Text → t.Selectors → c.Calls
+    selected names t.no_selector = c.no_call
+    selected names (t.select s more) = select names s (selected names more)
 
-    pub select : List Text → c.Exp → t.Selector → c.Exp
-    select names e (t.get x) = c.send (site x.span) e c.no_more
-    select names e (t.send x args) = c.send (site x.span) e (exps names args)
-    select names e (t.index span i) = c.send (site span) e (c.also (exp names i) c.no_more)
+    -- a selector, and then these calls
+    pub select : List Text → t.Selector → c.Calls → c.Calls
+    select names (t.get x) more = c.call (site x.span) c.no_more more
+    select names (t.send x args) more = c.call (site x.span) (exps names args) more
+    select names (t.index span i) more = c.call (site span) (c.also (exp names i) c.no_more) more
 
-    pub spot : List Text → Bool → t.Exp → c.Spot
-    spot names reads (t.bare x) = bare_spot names reads (scope names x.text) x
-    spot names reads (t.super_get span x) = c.above_spot (if_reads reads (super_number Get x.text)) (super_number Set x.text)
-    spot names reads (t.postfix e more) = selected_spot names reads (exp names e) more
-    spot names reads _ = no_spot
+    pub assignable : List Text → t.Exp → Assignable
+    assignable names (t.bare x) = bare_assignable names (owner names x.text) x
+    assignable names (t.super_get span x) = a_super x.text
+    assignable names (t.postfix e more) = last_of names (c.postfix (exp names e) (all_but_last names more)) more
+    assignable names _ = no_target
 
-    pub selected_spot : List Text → Bool → c.Exp → t.Selectors → c.Spot
-    selected_spot names reads e t.no_selector = no_spot
-    selected_spot names reads e (t.select s t.no_selector) = select_spot names reads e s
-    selected_spot names reads e (t.select s (t.select x more)) = selected_spot names reads (select names e s) (t.select x more)
+    pub all_but_last : List Text → t.Selectors → c.Calls
+    all_but_last names t.no_selector = c.no_call
+    all_but_last names (t.select s t.no_selector) = c.no_call
+    all_but_last names (t.select s (t.select x more)) = select names s (all_but_last names (t.select x more))
 
-    pub select_spot : List Text → Bool → c.Exp → t.Selector → c.Spot
-    select_spot names reads e (t.get x) = c.member_spot e (if_reads reads (site x.span)) (writing_site x.span)
-    select_spot names reads e (t.send x args) = no_spot
-    select_spot names reads e (t.index span i) = c.element_spot e (exp names i) (if_reads reads (site span)) (writing_site span)
+    -- what the last selector names, on a receiver
+    pub last_of : List Text → c.Exp → t.Selectors → Assignable
+    last_of names e t.no_selector = no_target
+    last_of names e (t.select s t.no_selector) = named_by names e s
+    last_of names e (t.select s (t.select x more)) = last_of names e (t.select x more)
+
+    pub named_by : List Text → c.Exp → t.Selector → Assignable
+    named_by names e (t.get x) = a_member e x.span
+    named_by names e (t.send x args) = no_target
+    named_by names e (t.index span i) = an_element e (exp names i) span
 
   abbrev pub exp_or : List Text → Literal → Option t.Exp → c.Exp
   exp_or names other None = c.constant other
@@ -207,19 +243,10 @@ module _ (tree : Tree) (site_of : Place → ℕ) (here : Option Text) where
   first names (t.local_first x) = c.first_declares (exp_or names l.Null x.value)
   first names (t.run_first e) = c.first_runs (exp names e)
 
-  -- the names that are open behind the first part of a `for`, and behind a statement
-  abbrev pub after_first : List Text → t.First → List Text
-  after_first names (t.local_first x) = x.name.text ∷ names
-  after_first names _ = names
-
-  abbrev pub after : List Text → t.Sta → List Text
-  after names (t.local x) = x.name.text ∷ names
-  after names _ = names
-
   abbrev mutual
     pub sta : List Text → t.Sta → c.Sta
     sta names (t.block all) = c.block (stas names all)
-    sta names (t.local x) = c.declares (exp_or names l.Null x.value)
+    sta names (t.local x) = c.declare (exp_or names l.Null x.value)
     sta names (t.run e) = c.run (exp names e)
     sta names t.empty = c.empty
     sta names (t.when e x) = c.when (exp names e) (sta names x)
@@ -242,12 +269,12 @@ module _ (tree : Tree) (site_of : Place → ℕ) (here : Option Text) where
 abbrev pub param_names : List Param → List Text
 param_names params = reverse (map (λ (p : Param). p.name.text) params)
 
--- without those that are `this.x`
-abbrev pub plain : Param → Option Text
-plain p = if p.is_field then None else Some p.name.text
+-- in a constructor's body a `this.x` has no name, since x means the field there
+abbrev pub body_name : Param → Text
+body_name p = if p.is_field then [] else p.name.text
 
 abbrev pub body_names : List Param → List Text
-body_names params = reverse (filter_map plain params)
+body_names params = reverse (map body_name params)
 
 -- the fields that a constructor's parameters set
 abbrev pub sets : Tree → Text → List Param → List (Option ℕ)

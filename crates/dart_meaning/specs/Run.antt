@@ -5,12 +5,10 @@ use Rattle.dart_values.specs.declared.fault.Trap.TheVariants as trap
 use Rattle.dart_values.specs.Values.{Text, Value, null, bool, text, at, Heap, Thing, class_of}
 use Rattle.dart_values.specs.Reads.{with_field}
 
--- `V` is what a variable is: over trees a name with a value, over numbered programs a value.
-pub record Run (V : Type 0) : Type 0 where
-  -- the variables of the body that runs, the newest first
-  pub vars : List V
-  pub this : Value
+-- What an isolate has beside the variables of the body that runs.
+pub record Store : Type 0 where
   pub heap : Heap
+  -- the top-level variables
   pub globals : List Value
   pub lines : List Text
   -- how many turns are left
@@ -19,6 +17,17 @@ pub record Run (V : Type 0) : Type 0 where
   pub asked : List (ℕ × ℕ)
   -- the tests by `is`: the value's class, and the class named
   pub tests : List (ℕ × ℕ)
+
+-- `V` is what a variable is: over trees a name with a value, over numbered programs a value.
+pub record Run (V : Type 0) : Type 0 where
+  -- the variables of the body that runs, the newest first
+  pub vars : List V
+  pub this : Value
+  pub store : Store
+
+-- a change of the store
+abbrev pub in_store : {V : Type 0} → (Store → Store) → Run V → Run V
+in_store f r = record r { store = f r.store }
 
 -- There is no other way to end.
 pub data Ending : Type 0 where
@@ -73,10 +82,10 @@ choose false a b = b
 -- one turn, where one is left
 abbrev pub spend_from : {V : Type 0} → ℕ → M V (Unit {0})
 spend_from zero = stop out_of_turns
-spend_from (suc n) = change (λ r. record r { turns = n })
+spend_from (suc n) = change (in_store (λ s. record s { turns = n }))
 
 abbrev pub spend : {V : Type 0} → M V (Unit {0})
-spend = λ r. spend_from r.turns r
+spend = λ r. spend_from r.store.turns r
 
 -- another turn of a loop, or what the loop answers
 pub data Next (S A : Type 0) : Type 0 where
@@ -94,7 +103,7 @@ loop (suc n) test turn s = test s >>= on_again (λ t. spend >> (turn t >>= on_ag
 
 -- It has no more turns than are left where it begins.
 abbrev pub looping : {V S A : Type 0} → (S → M V (Next S A)) → (S → M V (Next S A)) → S → M V A
-looping test turn s = look (λ r. r.turns) >>= (λ n. loop n test turn s)
+looping test turn s = look (λ r. r.store.turns) >>= (λ n. loop n test turn s)
 
 -- ---- values of a kind
 
@@ -110,23 +119,23 @@ need_text _ = trapped trap.TypeFault
 
 -- a new thing on the heap
 abbrev pub new : {V : Type 0} → Thing → M V Value
-new thing = λ r. went (at (length r.heap)) (record r { heap = r.heap ++ thing ∷ [] })
+new thing = λ r. went (at (length r.store.heap)) (in_store (λ s. record s { heap = s.heap ++ thing ∷ [] }) r)
 
 -- the object's field k is w now
 abbrev pub set_field : {V : Type 0} → Value → ℕ → Value → M V (Unit {0})
-set_field v k w = change (λ r. record r { heap = with_field r.heap v k w })
+set_field v k w = change (in_store (λ s. record s { heap = with_field s.heap v k w }))
 
 -- ---- what is told
 
 -- A cell is asked: the call is counted, before the member runs. The answer is the receiver's class.
 abbrev pub ask : {V : Type 0} → ℕ → Value → M V ℕ
-ask site v = λ r. went (class_of r.heap v) (record r { asked = r.asked ++ (site, class_of r.heap v) ∷ [] })
+ask site v = λ r. went (class_of r.store.heap v) (in_store (λ s. record s { asked = s.asked ++ (site, class_of s.heap v) ∷ [] }) r)
 
 abbrev pub note_test : {V : Type 0} → ℕ → ℕ → M V (Unit {0})
-note_test class named = change (λ r. record r { tests = r.tests ++ (class, named) ∷ [] })
+note_test class named = change (in_store (λ s. record s { tests = s.tests ++ (class, named) ∷ [] }))
 
 abbrev pub add_line : {V : Type 0} → Text → M V (Unit {0})
-add_line line = change (λ r. record r { lines = r.lines ++ line ∷ [] })
+add_line line = change (in_store (λ s. record s { lines = s.lines ++ line ∷ [] }))
 
 -- ---- variables
 

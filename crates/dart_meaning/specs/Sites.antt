@@ -11,7 +11,6 @@ use Rattle.program.specs.Sound.{binary_name}
 use Rattle.dart_values.specs.Values.{Text}
 use Rattle.dart_meaning.specs.Place.{Place, reading, writing, in_print, in_list}
 use Rattle.dart_meaning.specs.Program.{calling, getting, setting, to_string}
-use Rattle.dart_meaning.specs.Operators.{operator_of}
 use Rattle.dart_meaning.specs.Uses.{Use, reads, writes, calls, member_reads, member_writes, member_calls, index_reads, index_writes, operates, prefixes, shows, Part, parts}
 use Rattle.dart_meaning.specs.Means.{means, is_of_this}
 
@@ -41,7 +40,7 @@ sites_of_use tree part (member_writes n) = site (writing n.span.start) (setting 
 sites_of_use tree part (member_calls n k) = site (reading n.span.start) (calling n.text k) ∷ []
 sites_of_use tree part (index_reads at) = site (reading at.start) (calling (codes "[]") 1) ∷ []
 sites_of_use tree part (index_writes at) = site (writing at.start) (calling (codes "[]=") 2) ∷ []
-sites_of_use tree part (operates op at) = site (reading at.start) (calling (binary_name (operator_of op)) 1) ∷ []
+sites_of_use tree part (operates op at) = site (reading at.start) (calling (binary_name op) 1) ∷ []
 sites_of_use tree part (prefixes op at) = site (reading at.start) (calling (prefix_name op) 0) ∷ []
 sites_of_use tree part (shows at) = site (reading at.start) to_string ∷ []
 sites_of_use tree part _ = []

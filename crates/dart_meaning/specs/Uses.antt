@@ -6,15 +6,11 @@ use Rattle.dart_syntax.specs.declared.token.Span.{Span}
 use Rattle.dart_syntax.specs.declared.tree.Name.{Name}
 use Rattle.dart_syntax.specs.declared.tree.Unary.{Unary}
 use Rattle.dart_syntax.specs.declared.tree.Unary.TheVariants as unary
-use Rattle.dart_syntax.specs.declared.tree.Binary.{Binary}
-use Rattle.dart_syntax.specs.declared.tree.Binary.TheVariants as binary
-use Rattle.dart_syntax.specs.declared.tree.Step.{Step}
-use Rattle.dart_syntax.specs.declared.tree.Step.TheVariants as step
-use Rattle.dart_syntax.specs.declared.tree.Assignment.{Assignment}
-use Rattle.dart_syntax.specs.declared.tree.Assignment.TheVariants as assignment
+use Rattle.program.specs.declared.body.BinaryOperator.{BinaryOperator}
 use Rattle.dart_syntax.specs.Bytes.{Text}
 use Rattle.dart_syntax.specs.Syntax as t
 use Rattle.dart_syntax.specs.Syntax.{Exp, Exps, Pieces, Links, Selectors, Selector, First, Sta, Stas, Param, Body, Passed, Member, ClassDecl, Top, Tree}
+use Rattle.dart_meaning.specs.Operators.{operator_of, compound, step_operator}
 use Rattle.dart_meaning.specs.declared.seen.Seen.{Seen}
 use Rattle.dart_meaning.specs.declared.seen.Seen.TheVariants.{Late, Ready}
 
@@ -85,7 +81,7 @@ pub data Use : Type 0 where
   -- an index, at its bracket
   index_reads index_writes : Span → Use
   -- an operator between two operands, also the one of a compound assignment
-  operates : Binary → Span → Use
+  operates : BinaryOperator → Span → Use
   prefixes : Unary → Span → Use
   -- an interpolation, at the piece of the string before it
   shows : Span → Use
@@ -107,11 +103,10 @@ abbrev pub count : Exps → ℕ
 count t.no_more = 0
 count (t.also e more) = suc (count more)
 
--- `&&` and `||` call nothing.
-abbrev pub link_use : Binary → Span → List Use
-link_use binary.And at = []
-link_use binary.Or at = []
-link_use op at = operates op at ∷ []
+-- the operator that is called, if any
+abbrev pub operator_use : Option BinaryOperator → Span → List Use
+operator_use None at = []
+operator_use (Some op) at = operates op at ∷ []
 
 abbrev pub is_number : Exp → Bool
 is_number (t.int n at) = true
@@ -123,30 +118,6 @@ abbrev pub prefix_use : Unary → Span → Exp → List Use
 prefix_use unary.Not at e = []
 prefix_use unary.Minus at e = if is_number e then [] else prefixes unary.Minus at ∷ []
 prefix_use unary.Complement at e = prefixes unary.Complement at ∷ []
-
--- the operator that a compound assignment calls
-abbrev pub operator_of : Assignment → Option Binary
-operator_of assignment.Plain = None
-operator_of assignment.Add = Some binary.Add
-operator_of assignment.Subtract = Some binary.Subtract
-operator_of assignment.Multiply = Some binary.Multiply
-operator_of assignment.Divide = Some binary.Divide
-operator_of assignment.Remainder = Some binary.Remainder
-operator_of assignment.BitAnd = Some binary.BitAnd
-operator_of assignment.BitOr = Some binary.BitOr
-operator_of assignment.BitXor = Some binary.BitXor
-operator_of assignment.ShiftLeft = Some binary.ShiftLeft
-operator_of assignment.ShiftRight = Some binary.ShiftRight
-operator_of assignment.ShiftUnsigned = Some binary.ShiftUnsigned
-
-abbrev pub operator_use : Option Binary → Span → List Use
-operator_use None at = []
-operator_use (Some op) at = operates op at ∷ []
-
--- `++x` is `x += 1`.
-abbrev pub step_operator : Step → Binary
-step_operator step.Increment = binary.Add
-step_operator step.Decrement = binary.Subtract
 
 -- what is assigned to, and read before where the assignment is compound
 abbrev pub changes : Bool → Use → Use → List Use
@@ -174,7 +145,7 @@ module _ (scope : Scope) where
     exp (t.chain e more) = exp e ++ links more
     exp (t.is e denied at n) = exp e ++ names_class n ∷ []
     exp (t.choice c x y) = exp c ++ (exp x ++ exp y)
-    exp (t.assign to op at e) = target (is_some (operator_of op)) to ++ (operator_use (operator_of op) at ++ exp e)
+    exp (t.assign to op at e) = target (is_some (compound op)) to ++ (operator_use (compound op) at ++ exp e)
     exp (t.throw at e) = exp e
     exp _ = []
 
@@ -189,7 +160,7 @@ module _ (scope : Scope) where
 
     pub links : Links → List Use
     links t.no_link = []
-    links (t.link op at e more) = link_use op at ++ (exp e ++ links more)
+    links (t.link op at e more) = operator_use (operator_of op) at ++ (exp e ++ links more)
 
     pub selector : Selector → List Use
     selector (t.get n) = member_reads n ∷ []

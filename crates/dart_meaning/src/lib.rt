@@ -1,7 +1,7 @@
 //! What programs do.
 #![tactic(auto)]
 
-pub mod laws;
+pub mod operators;
 mod seen;
 
 pub use seen::Seen;

@@ -16,8 +16,8 @@ use Rattle.program.specs.declared.numbered.Function.{Function}
 use Rattle.program.specs.declared.numbered.Method.{Method}
 use Rattle.program.specs.declared.numbered.MethodBody.{MethodBody}
 use Rattle.program.specs.declared.numbered.MethodBody.TheVariants as does
-use Rattle.program.specs.declared.numbered.Place.{Place}
-use Rattle.program.specs.declared.numbered.Place.TheVariants as place
+use Rattle.program.specs.declared.numbered.SitePlace.{SitePlace}
+use Rattle.program.specs.declared.numbered.SitePlace.TheVariants as place
 use Rattle.program.specs.declared.numbered.Selector.{Selector}
 use Rattle.program.specs.declared.numbered.SelectorKind.TheVariants.{Call, Get, Set}
 use Rattle.program.specs.declared.numbered.Site.{Site}
@@ -28,7 +28,7 @@ use Rattle.program.specs.Lookup.{no_such_method}
 use Rattle.program.specs.BuiltIn.{built_in_members, built_in_classes}
 use Rattle.program.specs.Sizes.{size}
 use Rattle.program.specs.Sound.{Is, Accepts, ConstructorAccepts, Sound, AllSound, SoundStas, SoundBody}
-use Rattle.program.specs.Whole.{IsSound, IsClass, SoundClass, IsNamed, IsMethod, SoundMethod, SoundCode, Declares, HasSoundConstructor, SoundConstructor, plain_parameters, IsFunction, AreDistinct, same_member, same_name, TakesByRole, SuperAccepts, passed, IsPlaced, IsSite, IsSelector}
+use Rattle.program.specs.Whole.{IsSound, IsClass, SoundClass, IsNamed, IsMethod, SoundMethod, SoundCode, Declares, HasSoundConstructor, SoundConstructor, IsFunction, AreDistinct, same_member, same_name, TakesByRole, SuperAccepts, passed, IsPlaced, IsSite, IsSelector}
 use Rattle.program.proofs.Props.{Is-prop, ConstructorAccepts-prop, AllSound-prop, SoundStas-prop, SoundBody-prop}
 use Rattle.program.proofs.Each.{slice_get-take}
 use Rattle.program.proofs.Always.{always}
@@ -94,8 +94,8 @@ module _ (p : Parts) (sound : ∥ IsSound p ∥₁) where
   pub passes_sound : (class : ℕ) (k : Class) (b : Constructor) → slice_get p.classes class ≡ Some k → k.constructor ≡ Some b → AllSound p None (length b.sets) (c.exps (map c.exp b.passes))
   passes_sound class k b here is = ∥∥₁_elim sound (AllSound-prop p None (length b.sets) (c.exps (map c.exp b.passes))) (λ i. (constructor_is class k b here is i).passes)
 
-  pub constructor_sound : (class : ℕ) (k : Class) (b : Constructor) → slice_get p.classes class ≡ Some k → k.constructor ≡ Some b → SoundStas p (Some class) false (plain_parameters b) false (c.stas (map c.sta b.body))
-  constructor_sound class k b here is = ∥∥₁_elim sound (SoundStas-prop p (Some class) false (plain_parameters b) false (c.stas (map c.sta b.body))) (λ i. (constructor_is class k b here is i).body)
+  pub constructor_sound : (class : ℕ) (k : Class) (b : Constructor) → slice_get p.classes class ≡ Some k → k.constructor ≡ Some b → SoundStas p (Some class) false (length b.sets) false (c.stas (map c.sta b.body))
+  constructor_sound class k b here is = ∥∥₁_elim sound (SoundStas-prop p (Some class) false (length b.sets) false (c.stas (map c.sta b.body))) (λ i. (constructor_is class k b here is i).body)
 
   -- Members.
 
@@ -184,17 +184,17 @@ module _ (p : Parts) (sound : ∥ IsSound p ∥₁) where
 
   -- The sites of `print` and of a list's text call `toString`.
 
-  at_print : (s : ℕ) (at : Place) → IsPlaced p s at → s + 2 ≡ length p.sites → Is Call (codes "toString") 0 (selector_at p s)
+  at_print : (s : ℕ) (at : SitePlace) → IsPlaced p s at → s + 2 ≡ length p.sites → Is Call (codes "toString") 0 (selector_at p s)
   at_print s (place.At line column) h e = absurd (omega arith)
   at_print s place.Print h e = h.1
   at_print s place.List h e = let one = h.0 in absurd (omega arith)
 
-  at_list : (s : ℕ) (at : Place) → IsPlaced p s at → s + 1 ≡ length p.sites → Is Call (codes "toString") 0 (selector_at p s)
+  at_list : (s : ℕ) (at : SitePlace) → IsPlaced p s at → s + 1 ≡ length p.sites → Is Call (codes "toString") 0 (selector_at p s)
   at_list s (place.At line column) h e = absurd (omega arith)
   at_list s place.Print h e = let one = h.0 in absurd (omega arith)
   at_list s place.List h e = h.1
 
-  placed : (s : ℕ) → s < length p.sites → IsSound p → (at : Place) × IsPlaced p s at
+  placed : (s : ℕ) → s < length p.sites → IsSound p → (at : SitePlace) × IsPlaced p s at
   placed s lt i =
       let none : Site = record { selector = record { 0 = 0 }; place = place.Print } in
       let site : Site = get_or p.sites s none in

@@ -11,14 +11,16 @@ use Rattle.program.specs.declared.numbered.Class.{Class}
 use Rattle.program.specs.declared.numbered.Constructor.{Constructor}
 use Rattle.program.specs.declared.numbered.SelectorKind.{SelectorKind}
 use Rattle.program.specs.declared.numbered.SelectorKind.TheVariants.{Call, Get, Set}
-use Rattle.program.specs.declared.body.Compound.{Compound}
-use Rattle.program.specs.declared.body.Binary.{Binary}
+use Rattle.program.specs.declared.body.OperatorCall.{OperatorCall}
+use Rattle.program.specs.declared.body.BinaryOperator.{BinaryOperator}
+use Rattle.program.specs.declared.body.Joint.{Joint}
+use Rattle.program.specs.declared.body.Joint.TheVariants as joint
 use Rattle.program.specs.declared.body.Body.{Body}
 use Rattle.program.specs.declared.body.Body.TheVariants as body
 use Rattle.program.specs.Bodies as c
-use Rattle.program.specs.Bodies.{Exp, Exps, Pieces, Links, Spot, First, Sta, Stas, count}
+use Rattle.program.specs.Bodies.{Exp, Exps, Pieces, Calls, Links, Target, Update, First, Sta, Stas, count}
 use Rattle.program.specs.Parts.{Parts, selector_at}
-use Rattle.program.specs.Sound.{Is, IsOf, Asks, FunctionAccepts, ConstructorAccepts, MakeAccepts, AboveAccepts, IsRole, IsNoSetter, Reads, ReadsAbove, Operates, LinksAt, Sound, AllSound, SoundPieces, SoundLinks, SoundSpot, SoundFirst, IsNull, Returns, SoundSta, SoundStas, SoundBody, after, after_first, binary_name, assigns, steps}
+use Rattle.program.specs.Sound.{Is, IsOf, Asks, FunctionAccepts, ConstructorAccepts, MakeAccepts, AboveAccepts, IsRole, IsNoSetter, IsAbove, Operates, Joins, Sound, AllSound, SoundPieces, SoundCalls, SoundLinks, SoundTarget, SoundUpdate, SoundFirst, IsNull, Returns, SoundSta, SoundStas, SoundBody, after, after_first, binary_name, assigns, steps}
 
 pub kind_prop : (a b : SelectorKind) → IsProp (a ≡ b)
 kind_prop a b = Coded-set kinds.the_row.coded a b
@@ -60,25 +62,16 @@ module _ (p : Parts) (here : Option ℕ) where
   IsNoSetter-prop None = hlevel props
   IsNoSetter-prop (Some k) = hlevel props
 
-  Reads-prop : (what : Option Selector → Type 0) → ((o : Option Selector) → IsProp (what o)) → (s : Option ℕ) (b : Bool) → IsProp (Reads p here what s b)
-  Reads-prop what h None true = hlevel props
-  Reads-prop what h None false = hlevel props
-  Reads-prop what h (Some s) true = h (selector_at p s)
-  Reads-prop what h (Some s) false = hlevel props
+  IsAbove-prop : (kind : SelectorKind) (n m : ℕ) → IsProp (IsAbove p here kind n m)
+  IsAbove-prop kind n m = hlevel (props, IsRole-prop kind (slice_get p.methods m), AboveAccepts-prop m n (slice_get p.methods m))
 
-  ReadsAbove-prop : (s : Option ℕ) (b : Bool) → IsProp (ReadsAbove p here s b)
-  ReadsAbove-prop None true = hlevel props
-  ReadsAbove-prop None false = hlevel props
-  ReadsAbove-prop (Some m) true = hlevel (props, IsRole-prop Get (slice_get p.methods m), AboveAccepts-prop m 0 (slice_get p.methods m))
-  ReadsAbove-prop (Some m) false = hlevel props
+  Operates-prop : (allowed : BinaryOperator → Bool) (k : OperatorCall) → IsProp (Operates p here allowed k)
+  Operates-prop allowed k = hlevel (props, Is-prop Call (binary_name k.operator) 1 (selector_at p k.site.0))
 
-  Operates-prop : (allowed : Binary → Bool) (o : Option Compound) → IsProp (Operates p here allowed o)
-  Operates-prop allowed None = hlevel props
-  Operates-prop allowed (Some k) = hlevel (props, Is-prop Call (binary_name k.operator) 1 (selector_at p k.site.0))
-
-  LinksAt-prop : (op : Binary) (s : Option ℕ) → IsProp (LinksAt p here s op)
-  LinksAt-prop op None = hlevel props
-  LinksAt-prop op (Some s) = hlevel (props, Is-prop Call (binary_name op) 1 (selector_at p s))
+  Joins-prop : (op : Joint) → IsProp (Joins p here op)
+  Joins-prop joint.And = hlevel props
+  Joins-prop joint.Or = hlevel props
+  Joins-prop (joint.Operator k) = Is-prop Call (binary_name k.operator) 1 (selector_at p k.site.0)
 
   mutual
     pub Sound-prop : (n : ℕ) (e : Exp) → IsProp (Sound p here n e)
@@ -86,19 +79,20 @@ module _ (p : Parts) (here : Option ℕ) where
     Sound-prop n c.this = hlevel props
     Sound-prop n (c.local k) = hlevel props
     Sound-prop n (c.global k) = hlevel props
-    Sound-prop n (c.str units more) = SoundPieces-prop n more
-    Sound-prop n (c.function f args) = hlevel (props, FunctionAccepts-prop (count args) (slice_get p.functions f), AllSound-prop n args)
-    Sound-prop n (c.print args) = hlevel (props, AllSound-prop n args)
-    Sound-prop n (c.make k args) = hlevel (props, MakeAccepts-prop (count args) (slice_get p.classes k), AllSound-prop n args)
-    Sound-prop n (c.above m args) = hlevel (props, IsNoSetter-prop (slice_get p.methods m), AboveAccepts-prop m (count args) (slice_get p.methods m), AllSound-prop n args)
+    Sound-prop n (c.interpolation units more) = SoundPieces-prop n more
+    Sound-prop n (c.call_function f args) = hlevel (props, FunctionAccepts-prop (count args) (slice_get p.functions f), AllSound-prop n args)
+    Sound-prop n (c.print e) = Sound-prop n e
+    Sound-prop n (c.new k args) = hlevel (props, MakeAccepts-prop (count args) (slice_get p.classes k), AllSound-prop n args)
+    Sound-prop n (c.super m args) = hlevel (props, IsNoSetter-prop (slice_get p.methods m), AboveAccepts-prop m (count args) (slice_get p.methods m), AllSound-prop n args)
     Sound-prop n (c.list_of items) = AllSound-prop n items
-    Sound-prop n (c.send s e args) = hlevel (props, Asks-prop (count args) (selector_at p s), Sound-prop n e, AllSound-prop n args)
+    Sound-prop n (c.postfix e more) = hlevel (props, Sound-prop n e, SoundCalls-prop n more)
     Sound-prop n (c.chain e more) = hlevel (props, Sound-prop n e, SoundLinks-prop n more)
-    Sound-prop n (c.deny e) = Sound-prop n e
+    Sound-prop n (c.not e) = Sound-prop n e
     Sound-prop n (c.is e denied k) = hlevel (props, Sound-prop n e)
-    Sound-prop n (c.choice x y z) = hlevel (props, Sound-prop n x, Sound-prop n y, Sound-prop n z)
-    Sound-prop n (c.assign to op e) = hlevel (props, SoundSpot-prop n (is_some op) to, Operates-prop assigns op, Sound-prop n e)
-    Sound-prop n (c.step before op to) = hlevel (props, SoundSpot-prop n true to, Operates-prop steps (Some op))
+    Sound-prop n (c.conditional x y z) = hlevel (props, Sound-prop n x, Sound-prop n y, Sound-prop n z)
+    Sound-prop n (c.assign to e) = hlevel (props, SoundTarget-prop n to, Sound-prop n e)
+    Sound-prop n (c.compound_assign to op e) = hlevel (props, SoundUpdate-prop n to, Operates-prop assigns op, Sound-prop n e)
+    Sound-prop n (c.increment before op to) = hlevel (props, SoundUpdate-prop n to, Operates-prop steps op)
     Sound-prop n (c.throw e) = Sound-prop n e
 
     pub AllSound-prop : (n : ℕ) (es : Exps) → IsProp (AllSound p here n es)
@@ -109,16 +103,28 @@ module _ (p : Parts) (here : Option ℕ) where
     SoundPieces-prop n c.no_piece = hlevel props
     SoundPieces-prop n (c.piece s e after more) = hlevel (props, Is-prop Call (codes "toString") 0 (selector_at p s), Sound-prop n e, SoundPieces-prop n more)
 
+    SoundCalls-prop : (n : ℕ) (es : Calls) → IsProp (SoundCalls p here n es)
+    SoundCalls-prop n c.no_call = hlevel props
+    SoundCalls-prop n (c.call s args more) = hlevel (props, Asks-prop (count args) (selector_at p s), AllSound-prop n args, SoundCalls-prop n more)
+
     SoundLinks-prop : (n : ℕ) (es : Links) → IsProp (SoundLinks p here n es)
     SoundLinks-prop n c.no_link = hlevel props
-    SoundLinks-prop n (c.link op s e more) = hlevel (props, LinksAt-prop op s, Sound-prop n e, SoundLinks-prop n more)
+    SoundLinks-prop n (c.link op e more) = hlevel (props, Joins-prop op, Sound-prop n e, SoundLinks-prop n more)
 
-    SoundSpot-prop : (n : ℕ) (reads : Bool) (to : Spot) → IsProp (SoundSpot p here n reads to)
-    SoundSpot-prop n reads (c.local_spot k) = hlevel props
-    SoundSpot-prop n reads (c.global_spot k) = hlevel props
-    SoundSpot-prop n reads (c.above_spot g m) = hlevel (props, ReadsAbove-prop g reads, IsRole-prop Set (slice_get p.methods m), AboveAccepts-prop m 1 (slice_get p.methods m))
-    SoundSpot-prop n reads (c.member_spot e g s) = hlevel (props, Reads-prop (IsOf Get 0) (IsOf-prop Get 0) g reads, IsOf-prop Set 1 (selector_at p s), Sound-prop n e)
-    SoundSpot-prop n reads (c.element_spot e i g s) = hlevel (props, Reads-prop (Is Call (codes "[]") 1) (Is-prop Call (codes "[]") 1) g reads, Is-prop Call (codes "[]=") 2 (selector_at p s), Sound-prop n e, Sound-prop n i)
+    SoundTarget-prop : (n : ℕ) (to : Target) → IsProp (SoundTarget p here n to)
+    SoundTarget-prop n (c.to_local k) = hlevel props
+    SoundTarget-prop n (c.to_global k) = hlevel props
+    SoundTarget-prop n (c.to_super m) = IsAbove-prop Set 1 m
+    SoundTarget-prop n (c.to_member e s) = hlevel (props, IsOf-prop Set 1 (selector_at p s), Sound-prop n e)
+    SoundTarget-prop n (c.to_element e i s) = hlevel (props, Is-prop Call (codes "[]=") 2 (selector_at p s), Sound-prop n e, Sound-prop n i)
+
+    SoundUpdate-prop : (n : ℕ) (to : Update) → IsProp (SoundUpdate p here n to)
+    SoundUpdate-prop n (c.of_local k) = hlevel props
+    SoundUpdate-prop n (c.of_global k) = hlevel props
+    SoundUpdate-prop n (c.of_super g m) = hlevel (props, IsAbove-prop Get 0 g, IsAbove-prop Set 1 m)
+    SoundUpdate-prop n (c.of_member e g s) = hlevel (props, IsOf-prop Get 0 (selector_at p g), IsOf-prop Set 1 (selector_at p s), Sound-prop n e)
+    SoundUpdate-prop n (c.of_element e i g s) =
+        hlevel (props, Is-prop Call (codes "[]") 1 (selector_at p g), Is-prop Call (codes "[]=") 2 (selector_at p s), Sound-prop n e, Sound-prop n i)
 
   SoundFirst-prop : (n : ℕ) (start : First) → IsProp (SoundFirst p here n start)
   SoundFirst-prop n c.no_first = hlevel props
@@ -137,14 +143,14 @@ module _ (p : Parts) (here : Option ℕ) where
     mutual
       pub SoundSta-prop : (n : ℕ) (loops : Bool) (x : Sta) → IsProp (SoundSta p here answers n loops x)
       SoundSta-prop n loops (c.block all) = SoundStas-prop n loops all
-      SoundSta-prop n loops (c.declares e) = Sound-prop n e
+      SoundSta-prop n loops (c.declare e) = Sound-prop n e
       SoundSta-prop n loops (c.run e) = Sound-prop n e
       SoundSta-prop n loops c.empty = hlevel props
       SoundSta-prop n loops (c.when e x) = hlevel (props, Sound-prop n e, SoundSta-prop n loops x)
       SoundSta-prop n loops (c.when_else e x y) = hlevel (props, Sound-prop n e, SoundSta-prop n loops x, SoundSta-prop n loops y)
       SoundSta-prop n loops (c.while e x) = hlevel (props, Sound-prop n e, SoundSta-prop n true x)
       SoundSta-prop n loops (c.for start e last x) =
-          hlevel (props, SoundFirst-prop n start, Sound-prop (after_first p here n start) e, AllSound-prop (after_first p here n start) last, SoundSta-prop (after_first p here n start) true x)
+          hlevel (props, SoundFirst-prop n start, Sound-prop (after_first n start) e, AllSound-prop (after_first n start) last, SoundSta-prop (after_first n start) true x)
       SoundSta-prop n loops (c.do_while x e) = hlevel (props, Sound-prop n e, SoundSta-prop n true x)
       SoundSta-prop n loops c.break = hlevel props
       SoundSta-prop n loops c.continue = hlevel props
@@ -152,7 +158,7 @@ module _ (p : Parts) (here : Option ℕ) where
 
       pub SoundStas-prop : (n : ℕ) (loops : Bool) (all : Stas) → IsProp (SoundStas p here answers n loops all)
       SoundStas-prop n loops c.end_of = hlevel props
-      SoundStas-prop n loops (c.next x more) = hlevel (props, SoundSta-prop n loops x, SoundStas-prop (after p here n x) loops more)
+      SoundStas-prop n loops (c.next x more) = hlevel (props, SoundSta-prop n loops x, SoundStas-prop (after n x) loops more)
 
   pub SoundBody-prop : (n : ℕ) (b : Body) → IsProp (SoundBody p here n b)
   SoundBody-prop n (body.Arrow e) = Sound-prop n (c.exp e)

@@ -8,8 +8,8 @@ use Rattle.program.specs.declared.numbered.Selector.{Selector}
 use Rattle.program.specs.declared.numbered.SelectorKind.{SelectorKind}
 use Rattle.program.specs.declared.numbered.SelectorKind.TheVariants.{Call, Get}
 use Rattle.program.specs.declared.numbered.Site.{Site}
-use Rattle.program.specs.declared.numbered.Place.{Place}
-use Rattle.program.specs.declared.numbered.Place.TheVariants as place
+use Rattle.program.specs.declared.numbered.SitePlace.{SitePlace}
+use Rattle.program.specs.declared.numbered.SitePlace.TheVariants as place
 use Rattle.program.specs.Parts.{Parts, parts}
 
 abbrev pub object : ℕ
@@ -111,7 +111,7 @@ built_in_members =
 abbrev pub to_string : Selector
 to_string = record { kind = Call; name = codes "toString"; count = 0 }
 
-abbrev pub to_string_at : Place → Site
+abbrev pub to_string_at : SitePlace → Site
 to_string_at place = record { selector = record { 0 = 0 }; place = place }
 
 -- the built-in classes and members, and nothing else

@@ -9,28 +9,30 @@ use Rattle.program.specs.declared.numbered.MethodBody.{MethodBody}
 use Rattle.program.specs.declared.numbered.MethodBody.TheVariants as does
 use Rattle.program.specs.declared.numbered.Function.{Function}
 use Rattle.program.specs.Bodies as c
-use Rattle.program.specs.Bodies.{Exp, Exps, Pieces, Links, Spot, First, Sta, Stas}
+use Rattle.program.specs.Bodies.{Exp, Exps, Pieces, Calls, Links, Target, Update, First, Sta, Stas}
 use Rattle.program.specs.Parts.{Parts}
 
 abbrev mutual
+  -- a postfix is as many expressions as it has calls
   pub exp_size : Exp → ℕ
   exp_size (c.constant k) = 1
   exp_size c.this = 1
   exp_size (c.local k) = 1
   exp_size (c.global k) = 1
-  exp_size (c.str units more) = suc (pieces_size more)
-  exp_size (c.function f args) = suc (exps_size args)
-  exp_size (c.print args) = suc (exps_size args)
-  exp_size (c.make k args) = suc (exps_size args)
-  exp_size (c.above m args) = suc (exps_size args)
+  exp_size (c.interpolation units more) = suc (pieces_size more)
+  exp_size (c.call_function f args) = suc (exps_size args)
+  exp_size (c.print e) = suc (exp_size e)
+  exp_size (c.new k args) = suc (exps_size args)
+  exp_size (c.super m args) = suc (exps_size args)
   exp_size (c.list_of items) = suc (exps_size items)
-  exp_size (c.send s e args) = suc (exp_size e + exps_size args)
+  exp_size (c.postfix e more) = exp_size e + calls_size more
   exp_size (c.chain e more) = suc (exp_size e + links_size more)
-  exp_size (c.deny e) = suc (exp_size e)
+  exp_size (c.not e) = suc (exp_size e)
   exp_size (c.is e denied k) = suc (exp_size e)
-  exp_size (c.choice x y z) = suc (exp_size x + exp_size y + exp_size z)
-  exp_size (c.assign to op e) = suc (spot_size to + exp_size e)
-  exp_size (c.step before op to) = suc (spot_size to)
+  exp_size (c.conditional x y z) = suc (exp_size x + exp_size y + exp_size z)
+  exp_size (c.assign to e) = suc (target_size to + exp_size e)
+  exp_size (c.compound_assign to op e) = suc (update_size to + exp_size e)
+  exp_size (c.increment before op to) = suc (update_size to)
   exp_size (c.throw e) = suc (exp_size e)
 
   pub exps_size : Exps → ℕ
@@ -41,16 +43,27 @@ abbrev mutual
   pieces_size c.no_piece = 0
   pieces_size (c.piece s e after more) = exp_size e + pieces_size more
 
+  pub calls_size : Calls → ℕ
+  calls_size c.no_call = 0
+  calls_size (c.call s args more) = suc (exps_size args + calls_size more)
+
   pub links_size : Links → ℕ
   links_size c.no_link = 0
-  links_size (c.link op s e more) = exp_size e + links_size more
+  links_size (c.link op e more) = exp_size e + links_size more
 
-  pub spot_size : Spot → ℕ
-  spot_size (c.local_spot k) = 0
-  spot_size (c.global_spot k) = 0
-  spot_size (c.above_spot g m) = 0
-  spot_size (c.member_spot e g s) = exp_size e
-  spot_size (c.element_spot e i g s) = exp_size e + exp_size i
+  pub target_size : Target → ℕ
+  target_size (c.to_local k) = 0
+  target_size (c.to_global k) = 0
+  target_size (c.to_super m) = 0
+  target_size (c.to_member e s) = exp_size e
+  target_size (c.to_element e i s) = exp_size e + exp_size i
+
+  pub update_size : Update → ℕ
+  update_size (c.of_local k) = 0
+  update_size (c.of_global k) = 0
+  update_size (c.of_super g m) = 0
+  update_size (c.of_member e g s) = exp_size e
+  update_size (c.of_element e i g s) = exp_size e + exp_size i
 
 abbrev pub first_size : First → ℕ
 first_size c.no_first = 0
@@ -60,7 +73,7 @@ first_size (c.first_runs e) = exp_size e
 abbrev mutual
   pub sta_size : Sta → ℕ
   sta_size (c.block all) = suc (stas_size all)
-  sta_size (c.declares e) = suc (exp_size e)
+  sta_size (c.declare e) = suc (exp_size e)
   sta_size (c.run e) = suc (exp_size e)
   sta_size c.empty = 1
   sta_size (c.when e x) = suc (exp_size e + sta_size x)

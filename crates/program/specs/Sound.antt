@@ -1,9 +1,11 @@
 -- Bodies that are sound in a program: slots and numbers in range, and arguments, sites and places that fit.
 use Rattle.std.specs.Prelude.{◌≡◌, ℕ, suc, ◌+◌, ◌<◌, ◌≤◌, Bool, true, false, IsTrue, not, List, length, map, slice_get, Option, None, Some, is_some, codes}
 use Rattle.program.specs.declared.literal.Literal.TheVariants as literal
-use Rattle.program.specs.declared.body.Binary.{Binary}
-use Rattle.program.specs.declared.body.Binary.TheVariants as b
-use Rattle.program.specs.declared.body.Compound.{Compound}
+use Rattle.program.specs.declared.body.BinaryOperator.{BinaryOperator}
+use Rattle.program.specs.declared.body.BinaryOperator.TheVariants as b
+use Rattle.program.specs.declared.body.OperatorCall.{OperatorCall}
+use Rattle.program.specs.declared.body.Joint.{Joint}
+use Rattle.program.specs.declared.body.Joint.TheVariants as joint
 use Rattle.program.specs.declared.body.Body.{Body}
 use Rattle.program.specs.declared.body.Body.TheVariants as body
 use Rattle.program.specs.declared.numbered.Class.{Class}
@@ -14,16 +16,14 @@ use Rattle.program.specs.declared.numbered.Selector.{Selector}
 use Rattle.program.specs.declared.numbered.SelectorKind.{SelectorKind}
 use Rattle.program.specs.declared.numbered.SelectorKind.TheVariants.{Call, Get, Set}
 use Rattle.program.specs.Bodies as c
-use Rattle.program.specs.Bodies.{Exp, Exps, Pieces, Links, Spot, First, Sta, Stas, count}
+use Rattle.program.specs.Bodies.{Exp, Exps, Pieces, Calls, Links, Target, Update, First, Sta, Stas, count}
 use Rattle.program.specs.Hierarchy.{above_chain}
 use Rattle.program.specs.Parts.{Parts, parents, selector_at}
 use Rattle.program.specs.Lookup.{same_kind, first_declared}
 use Rattle.program.specs.BuiltIn.{is_open}
 
 -- the member that an operator calls
-abbrev pub binary_name : Binary → List ℕ
-binary_name b.Or = codes "||"
-binary_name b.And = codes "&&"
+abbrev pub binary_name : BinaryOperator → List ℕ
 binary_name b.Equal = codes "=="
 binary_name b.NotEqual = codes "=="
 binary_name b.Less = codes "<"
@@ -42,16 +42,8 @@ binary_name b.Multiply = codes "*"
 binary_name b.Divide = codes "~/"
 binary_name b.Remainder = codes "%"
 
--- `&&` and `||`, which call nothing
-abbrev pub is_lazy : Binary → Bool
-is_lazy b.Or = true
-is_lazy b.And = true
-is_lazy _ = false
-
 -- an operator of `+=` and its like
-abbrev pub assigns : Binary → Bool
-assigns b.Or = false
-assigns b.And = false
+abbrev pub assigns : BinaryOperator → Bool
 assigns b.Equal = false
 assigns b.NotEqual = false
 assigns b.Less = false
@@ -61,7 +53,7 @@ assigns b.GreaterEqual = false
 assigns _ = true
 
 -- that of `++` or `--`
-abbrev pub steps : Binary → Bool
+abbrev pub steps : BinaryOperator → Bool
 steps b.Add = true
 steps b.Subtract = true
 steps _ = false
@@ -99,6 +91,15 @@ abbrev pub MakeAccepts : ℕ → Option Class → Type 0
 MakeAccepts n None = ⊥
 MakeAccepts n (Some k) = (k.is_abstract ≡ false) × ConstructorAccepts n k.constructor
 
+-- the slots that are open behind the first part of a `for`, and behind a statement
+abbrev pub after_first : ℕ → First → ℕ
+after_first slots (c.first_declares e) = suc slots
+after_first slots _ = slots
+
+abbrev pub after : ℕ → Sta → ℕ
+after slots (c.declare e) = suc slots
+after slots _ = slots
+
 -- `here` is the class that holds the body, where there is a `this`.
 module _ (p : Parts) (here : Option ℕ) where
   -- what `super` means for a kind and a name
@@ -115,29 +116,22 @@ module _ (p : Parts) (here : Option ℕ) where
   IsRole kind None = ⊥
   IsRole kind (Some k) = k.role ≡ kind
 
+  -- method m is such a member of `super`, of this kind
+  abbrev pub IsAbove : SelectorKind → ℕ → ℕ → Type 0
+  IsAbove kind n m = IsRole kind (slice_get p.methods m) × AboveAccepts m n (slice_get p.methods m)
+
   abbrev pub IsNoSetter : Option Method → Type 0
   IsNoSetter None = ⊥
   IsNoSetter (Some k) = IsTrue (not (same_kind k.role Set))
 
-  -- the site of a read, there exactly where the assignment is compound
-  abbrev pub Reads : (Option Selector → Type 0) → Option ℕ → Bool → Type 0
-  Reads what (Some s) true = what (selector_at p s)
-  Reads what None false = Unit {0}
-  Reads what _ _ = ⊥
+  -- the site calls the operator, one of those that are allowed there
+  abbrev pub Operates : (BinaryOperator → Bool) → OperatorCall → Type 0
+  Operates allowed k = IsTrue (allowed k.operator) × Is Call (binary_name k.operator) 1 (selector_at p k.site.0)
 
-  abbrev pub ReadsAbove : Option ℕ → Bool → Type 0
-  ReadsAbove (Some m) true = IsRole Get (slice_get p.methods m) × AboveAccepts m 0 (slice_get p.methods m)
-  ReadsAbove None false = Unit {0}
-  ReadsAbove _ _ = ⊥
-
-  -- the site of a compound assignment calls its operator
-  abbrev pub Operates : (Binary → Bool) → Option Compound → Type 0
-  Operates allowed None = Unit {0}
-  Operates allowed (Some k) = IsTrue (allowed k.operator) × Is Call (binary_name k.operator) 1 (selector_at p k.site.0)
-
-  abbrev pub LinksAt : Option ℕ → Binary → Type 0
-  LinksAt (Some s) op = IsTrue (not (is_lazy op)) × Is Call (binary_name op) 1 (selector_at p s)
-  LinksAt None op = IsTrue (is_lazy op)
+  -- `&&` and `||` call nothing.
+  abbrev pub Joins : Joint → Type 0
+  Joins (joint.Operator k) = Is Call (binary_name k.operator) 1 (selector_at p k.site.0)
+  Joins _ = Unit {0}
 
   -- So many slots are open.
   abbrev mutual
@@ -146,19 +140,21 @@ module _ (p : Parts) (here : Option ℕ) where
     Sound slots c.this = IsTrue (is_some here)
     Sound slots (c.local k) = k < slots
     Sound slots (c.global k) = k < length p.globals
-    Sound slots (c.str units more) = SoundPieces slots more
-    Sound slots (c.function f args) = FunctionAccepts (count args) (slice_get p.functions f) × AllSound slots args
-    Sound slots (c.print args) = (count args ≡ 1) × AllSound slots args
-    Sound slots (c.make k args) = IsTrue (is_open k) × MakeAccepts (count args) (slice_get p.classes k) × AllSound slots args
-    Sound slots (c.above m args) = IsNoSetter (slice_get p.methods m) × AboveAccepts m (count args) (slice_get p.methods m) × AllSound slots args
+    Sound slots (c.interpolation units more) = SoundPieces slots more
+    Sound slots (c.call_function f args) = FunctionAccepts (count args) (slice_get p.functions f) × AllSound slots args
+    Sound slots (c.print e) = Sound slots e
+    Sound slots (c.new k args) = IsTrue (is_open k) × MakeAccepts (count args) (slice_get p.classes k) × AllSound slots args
+    Sound slots (c.super m args) =
+        IsNoSetter (slice_get p.methods m) × AboveAccepts m (count args) (slice_get p.methods m) × AllSound slots args
     Sound slots (c.list_of items) = AllSound slots items
-    Sound slots (c.send s e args) = Asks (count args) (selector_at p s) × Sound slots e × AllSound slots args
+    Sound slots (c.postfix e more) = Sound slots e × SoundCalls slots more
     Sound slots (c.chain e more) = Sound slots e × SoundLinks slots more
-    Sound slots (c.deny e) = Sound slots e
+    Sound slots (c.not e) = Sound slots e
     Sound slots (c.is e denied k) = (k < length p.classes) × Sound slots e
-    Sound slots (c.choice x y z) = Sound slots x × Sound slots y × Sound slots z
-    Sound slots (c.assign to op e) = SoundSpot slots (is_some op) to × Operates assigns op × Sound slots e
-    Sound slots (c.step before op to) = SoundSpot slots true to × Operates steps (Some op)
+    Sound slots (c.conditional x y z) = Sound slots x × Sound slots y × Sound slots z
+    Sound slots (c.assign to e) = SoundTarget slots to × Sound slots e
+    Sound slots (c.compound_assign to op e) = SoundUpdate slots to × Operates assigns op × Sound slots e
+    Sound slots (c.increment before op to) = SoundUpdate slots to × Operates steps op
     Sound slots (c.throw e) = Sound slots e
 
     pub AllSound : ℕ → Exps → Type 0
@@ -169,30 +165,33 @@ module _ (p : Parts) (here : Option ℕ) where
     SoundPieces slots c.no_piece = Unit {0}
     SoundPieces slots (c.piece s e after more) = Is Call (codes "toString") 0 (selector_at p s) × Sound slots e × SoundPieces slots more
 
+    pub SoundCalls : ℕ → Calls → Type 0
+    SoundCalls slots c.no_call = Unit {0}
+    SoundCalls slots (c.call s args more) = Asks (count args) (selector_at p s) × AllSound slots args × SoundCalls slots more
+
     pub SoundLinks : ℕ → Links → Type 0
     SoundLinks slots c.no_link = Unit {0}
-    SoundLinks slots (c.link op s e more) = LinksAt s op × Sound slots e × SoundLinks slots more
+    SoundLinks slots (c.link op e more) = Joins op × Sound slots e × SoundLinks slots more
 
-    pub SoundSpot : ℕ → Bool → Spot → Type 0
-    SoundSpot slots reads (c.local_spot k) = k < slots
-    SoundSpot slots reads (c.global_spot k) = k < length p.globals
-    SoundSpot slots reads (c.above_spot g m) = ReadsAbove g reads × IsRole Set (slice_get p.methods m) × AboveAccepts m 1 (slice_get p.methods m)
-    SoundSpot slots reads (c.member_spot e g s) = Reads (IsOf Get 0) g reads × IsOf Set 1 (selector_at p s) × Sound slots e
-    SoundSpot slots reads (c.element_spot e i g s) = Reads (Is Call (codes "[]") 1) g reads × Is Call (codes "[]=") 2 (selector_at p s) × Sound slots e × Sound slots i
+    pub SoundTarget : ℕ → Target → Type 0
+    SoundTarget slots (c.to_local k) = k < slots
+    SoundTarget slots (c.to_global k) = k < length p.globals
+    SoundTarget slots (c.to_super m) = IsAbove Set 1 m
+    SoundTarget slots (c.to_member e s) = IsOf Set 1 (selector_at p s) × Sound slots e
+    SoundTarget slots (c.to_element e i s) = Is Call (codes "[]=") 2 (selector_at p s) × Sound slots e × Sound slots i
+
+    pub SoundUpdate : ℕ → Update → Type 0
+    SoundUpdate slots (c.of_local k) = k < slots
+    SoundUpdate slots (c.of_global k) = k < length p.globals
+    SoundUpdate slots (c.of_super g m) = IsAbove Get 0 g × IsAbove Set 1 m
+    SoundUpdate slots (c.of_member e g s) = IsOf Get 0 (selector_at p g) × IsOf Set 1 (selector_at p s) × Sound slots e
+    SoundUpdate slots (c.of_element e i g s) =
+        Is Call (codes "[]") 1 (selector_at p g) × Is Call (codes "[]=") 2 (selector_at p s) × Sound slots e × Sound slots i
 
   abbrev pub SoundFirst : ℕ → First → Type 0
   SoundFirst slots c.no_first = Unit {0}
   SoundFirst slots (c.first_declares e) = Sound slots e
   SoundFirst slots (c.first_runs e) = Sound slots e
-
-  -- the slots that are open behind the first part of a `for`, and behind a statement
-  abbrev pub after_first : ℕ → First → ℕ
-  after_first slots (c.first_declares e) = suc slots
-  after_first slots _ = slots
-
-  abbrev pub after : ℕ → Sta → ℕ
-  after slots (c.declares e) = suc slots
-  after slots _ = slots
 
   -- `return` answers null in a constructor
   abbrev pub IsNull : Exp → Type 0
@@ -208,7 +207,7 @@ module _ (p : Parts) (here : Option ℕ) where
     abbrev mutual
       pub SoundSta : ℕ → Bool → Sta → Type 0
       SoundSta slots loops (c.block all) = SoundStas slots loops all
-      SoundSta slots loops (c.declares e) = Sound slots e
+      SoundSta slots loops (c.declare e) = Sound slots e
       SoundSta slots loops (c.run e) = Sound slots e
       SoundSta slots loops c.empty = Unit {0}
       SoundSta slots loops (c.when e x) = Sound slots e × SoundSta slots loops x

@@ -1,5 +1,5 @@
 -- All that is true of every numbered program.
-use Rattle.std.specs.Prelude.{◌≡◌, ℕ, ◌+◌, ◌-◌, ◌^◌, ◌<◌, ◌≤◌, Bool, false, IsTrue, ◌&&◌, nat_eq, List, [], ◌∷◌, length, map, take, slice_get, Option, None, Some, option_and_then, codes, IsAscii, count_by, is_none}
+use Rattle.std.specs.Prelude.{◌≡◌, ℕ, ◌+◌, ◌-◌, ◌^◌, ◌<◌, ◌≤◌, Bool, false, IsTrue, ◌&&◌, nat_eq, List, [], ◌∷◌, length, map, take, slice_get, Option, None, Some, option_and_then, codes, IsAscii}
 use Rattle.std.specs.Str.{bytes_eq}
 use Rattle.program.specs.declared.ids.ClassId.{ClassId}
 use Rattle.program.specs.declared.numbered.Class.{Class}
@@ -12,8 +12,8 @@ use Rattle.program.specs.declared.numbered.Selector.{Selector}
 use Rattle.program.specs.declared.numbered.SelectorKind.{SelectorKind}
 use Rattle.program.specs.declared.numbered.SelectorKind.TheVariants.{Call, Get, Set}
 use Rattle.program.specs.declared.numbered.Site.{Site}
-use Rattle.program.specs.declared.numbered.Place.{Place}
-use Rattle.program.specs.declared.numbered.Place.TheVariants as place
+use Rattle.program.specs.declared.numbered.SitePlace.{SitePlace}
+use Rattle.program.specs.declared.numbered.SitePlace.TheVariants as place
 use Rattle.program.specs.Bodies as c
 use Rattle.program.specs.Hierarchy.{IsPreorder, ends_within, above_chain}
 use Rattle.program.specs.Parts.{Parts, parents, supers, selector_at}
@@ -52,16 +52,12 @@ abbrev pub SetsField : Parts → ℕ → Option (Option ℕ) → Type 0
 SetsField p class (Some (Some field)) = Declares p class field
 SetsField p class _ = Unit {0}
 
--- the number of parameters that are no `this.x`
-abbrev pub plain_parameters : Constructor → ℕ
-plain_parameters b = count_by is_none b.sets
-
--- A constructor's `this.x` set fields that the class declares. What it passes on has no `this`, and its body has slots for the other parameters.
+-- A constructor's `this.x` set fields that the class declares. What it passes on has no `this`; it and the body have a slot for each parameter.
 pub record SoundConstructor (p : Parts) (class : ℕ) (b : Constructor) : Type 0 where
   pub each : length b.sets ≡ b.required + length b.defaults
   pub sets : (i : ℕ) → SetsField p class (slice_get b.sets i)
   pub passes : AllSound p None (length b.sets) (c.exps (map c.exp b.passes))
-  pub body : SoundStas p (Some class) false (plain_parameters b) false (c.stas (map c.sta b.body))
+  pub body : SoundStas p (Some class) false (length b.sets) false (c.stas (map c.sta b.body))
 
 abbrev pub HasSoundConstructor : Parts → ℕ → Option Constructor → Type 0
 HasSoundConstructor p class None = Unit {0}
@@ -140,7 +136,7 @@ IsSelector None = Unit {0}
 IsSelector (Some sel) = IsAscii sel.name × CountsByKind sel.kind sel.count
 
 -- The last two sites are those of `print` and of a list's text, and both call `toString`.
-abbrev pub IsPlaced : Parts → ℕ → Place → Type 0
+abbrev pub IsPlaced : Parts → ℕ → SitePlace → Type 0
 IsPlaced p s (place.At line column) = s + 2 < length p.sites
 IsPlaced p s place.Print = (s + 2 ≡ length p.sites) × Is Call (codes "toString") 0 (selector_at p s)
 IsPlaced p s place.List = (s + 1 ≡ length p.sites) × Is Call (codes "toString") 0 (selector_at p s)

@@ -3,10 +3,9 @@ use crate::ids::{ClassId, MethodId, SiteId};
 use crate::literal::{Literal, Text};
 use sqlite_items::{Boxed, Items};
 
+/// An operator with two operands that is a member of the left one's class.
 #[derive(Clone, Copy, Debug, PartialEq, Eq)]
-pub enum Binary {
-    Or,
-    And,
+pub enum BinaryOperator {
     Equal,
     NotEqual,
     Less,
@@ -26,6 +25,13 @@ pub enum Binary {
     Remainder,
 }
 
+/// A call of an operator's member through a site.
+#[derive(Clone, Copy, Debug, PartialEq, Eq)]
+pub struct OperatorCall {
+    pub operator: BinaryOperator,
+    pub site: SiteId,
+}
+
 /// An expression. Slots are counted from the oldest open variable, and parameters come first.
 #[derive(Drop)]
 pub enum Expression {
@@ -34,28 +40,30 @@ pub enum Expression {
     Local(u32),
     Global(u32),
     /// A text, and then interpolations.
-    Str(Text, Items<Piece<Expression>>),
+    Interpolation(Text, Items<Piece<Expression>>),
     /// A call of a function.
-    Function(u32, Items<Expression>),
-    Print(Items<Expression>),
+    CallFunction(u32, Items<Expression>),
+    Print(Boxed<Expression>),
     /// A new object, whose constructor is entered.
-    Make(ClassId, Items<Expression>),
+    New(ClassId, Items<Expression>),
     /// A member of the superclass, called or read.
-    Above(MethodId, Items<Expression>),
+    Super(MethodId, Items<Expression>),
     List(Items<Expression>),
-    /// A call or a read through a site: the receiver and the arguments.
-    Send(SiteId, Boxed<Expression>, Items<Expression>),
+    /// A receiver, and calls and reads through sites, each on what the one before it answered.
+    Postfix(Boxed<Expression>, Items<SiteCall<Expression>>),
     /// Operators of one level, from left to right.
     Chain(Boxed<Expression>, Items<Link<Expression>>),
     /// `!`
-    Deny(Boxed<Expression>),
+    Not(Boxed<Expression>),
     /// `is`, or `is!` where the flag is set.
     Is(Boxed<Expression>, bool, ClassId),
-    Choice(Boxed<Expression>, Boxed<Expression>, Boxed<Expression>),
-    /// With an operator and its site where it is compound.
-    Assign(Spot<Boxed<Expression>>, Option<Compound>, Boxed<Expression>),
+    /// `?:`
+    Conditional(Boxed<Expression>, Boxed<Expression>, Boxed<Expression>),
+    Assign(AssignmentTarget<Boxed<Expression>>, Boxed<Expression>),
+    /// `+=` and its like.
+    CompoundAssign(UpdateTarget<Boxed<Expression>>, OperatorCall, Boxed<Expression>),
     /// `++` and `--`; the flag is set where it stands before its target.
-    Step(bool, Compound, Spot<Boxed<Expression>>),
+    Increment(bool, OperatorCall, UpdateTarget<Boxed<Expression>>),
     Throw(Boxed<Expression>),
 }
 
@@ -67,31 +75,52 @@ pub struct Piece<E> {
     pub then: Text,
 }
 
-/// An operator with its right side. `&&` and `||` have no site.
+/// A call or a read through a site.
+#[derive(Drop)]
+pub struct SiteCall<E> {
+    pub site: SiteId,
+    pub arguments: Items<E>,
+}
+
+/// What joins an operand to what stands on its left. `&&` and `||` call nothing.
+#[derive(Clone, Copy, Debug, PartialEq, Eq)]
+pub enum Joint {
+    And,
+    Or,
+    Operator(OperatorCall),
+}
+
+/// An operator with its right side.
 #[derive(Drop)]
 pub struct Link<E> {
-    pub operator: Binary,
-    pub site: Option<SiteId>,
+    pub joint: Joint,
     pub operand: E,
 }
 
-#[derive(Clone, Copy, Debug, PartialEq, Eq)]
-pub struct Compound {
-    pub operator: Binary,
-    pub site: SiteId,
+/// What is assigned to.
+#[derive(Drop)]
+pub enum AssignmentTarget<E> {
+    Local(u32),
+    Global(u32),
+    /// The superclass's setter.
+    Super(MethodId),
+    /// The receiver, and the site of the write.
+    Member(E, SiteId),
+    /// The receiver, the index, and the site of the write.
+    Element(E, E, SiteId),
 }
 
-/// What is written, and read before that where the assignment is compound.
+/// What is read and then written, by a compound assignment, `++` or `--`.
 #[derive(Drop)]
-pub enum Spot<E> {
+pub enum UpdateTarget<E> {
     Local(u32),
     Global(u32),
     /// The superclass's getter and setter.
-    Above(Option<MethodId>, MethodId),
+    Super(MethodId, MethodId),
     /// The receiver, and the sites of the read and the write.
-    Member(E, Option<SiteId>, SiteId),
+    Member(E, SiteId, SiteId),
     /// The receiver, the index, and the sites of the read and the write.
-    Element(E, E, Option<SiteId>, SiteId),
+    Element(E, E, SiteId, SiteId),
 }
 
 /// The first part of a `for`.
@@ -106,7 +135,7 @@ pub enum First {
 pub enum Statement {
     Block(Items<Statement>),
     /// A local, which takes the next slot until its block ends.
-    Declares(Expression),
+    Declare(Expression),
     Run(Expression),
     Empty,
     If(Expression, Boxed<Statement>, Option<Boxed<Statement>>),

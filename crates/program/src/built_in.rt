@@ -5,7 +5,9 @@ ghost use Rattle.program.specs.Rows.{members_from};
 ghost use Rattle.program.specs.Program.{parts_of};
 
 use crate::ids::{ClassId, NativeId, SelectorId};
-use crate::numbered::{Class, Method, MethodBody, Numbered, Place, Selector, SelectorKind, Site};
+use crate::numbered::{
+    Class, Method, MethodBody, Numbered, Selector, SelectorKind, Site, SitePlace,
+};
 use sqlite_items::Items;
 use std::alloc::{AllocError, Global};
 
@@ -168,11 +170,11 @@ pub fn built_in_program(alloc: Global) -> Result<Numbered, AllocError>
     let selector = SelectorId(0);
     sites.push(Site {
         selector,
-        place: Place::Print,
+        place: SitePlace::Print,
     })?;
     sites.push(Site {
         selector,
-        place: Place::List,
+        place: SitePlace::List,
     })?;
     Ok(Numbered {
         classes,

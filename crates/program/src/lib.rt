@@ -7,11 +7,14 @@ mod ids;
 mod literal;
 mod numbered;
 
-pub use body::{Binary, Body, Compound, Expression, First, Link, Piece, Spot, Statement};
+pub use body::{
+    AssignmentTarget, BinaryOperator, Body, Expression, First, Joint, Link, OperatorCall, Piece,
+    SiteCall, Statement, UpdateTarget,
+};
 pub use built_in::built_in_program;
 pub use ids::{ClassId, EntryId, MethodId, NativeId, SelectorId, SiteId, UnitId};
 pub use literal::{Literal, Text};
 pub use numbered::{
-    Class, Constructor, Field, Function, Method, MethodBody, Numbered, Place, Selector,
-    SelectorKind, Site, Target,
+    Class, Constructor, Field, Function, Method, MethodBody, Numbered, Selector, SelectorKind,
+    Site, SitePlace, Target,
 };

@@ -89,7 +89,7 @@ pub struct Selector {
 
 /// Where a site stands: in the source, or in what `print` and a list's text do.
 #[derive(Clone, Copy, Debug, PartialEq, Eq)]
-pub enum Place {
+pub enum SitePlace {
     At { line: u32, column: u32 },
     Print,
     List,
@@ -98,7 +98,7 @@ pub enum Place {
 #[derive(Clone, Copy, Debug, PartialEq, Eq)]
 pub struct Site {
     pub selector: SelectorId,
-    pub place: Place,
+    pub place: SitePlace,
 }
 
 /// A program by numbers. `sound` is all that is true of each one.

@@ -12,8 +12,8 @@ use Rattle.program.specs.Program as of_program
 use Rattle.program.specs.Program.{entry_named, parts_of}
 use Rattle.dart_meaning.specs.Classes.{functions, function_at, required}
 use Rattle.dart_meaning.specs.Numbered.{literal}
-use Rattle.numbered_tree.specs.Forms.{Form, FunctionForm, function_form}
-use Rattle.numbered_tree.specs.NumberedForm.{IsNumberedOf, defaults, numbered_function}
+use Rattle.dart_meaning.specs.Forms.{Form, FunctionForm, function_form}
+use Rattle.dart_meaning.specs.NumberedForm.{IsNumberedOf, defaults, numbered_function}
 use Rattle.class_proofs.proofs.members.Forms.{params_count}
 use Rattle.resolver.specs.Entries.{is_entry_named, is_entry_top, has_entry}
 

@@ -14,8 +14,8 @@ use Rattle.name_uses.specs.Looked.{looked}
 use Rattle.name_uses.proofs.Looked.{looked_parts}
 use Rattle.dart_meaning.specs.Sites.{sites}
 use Rattle.static_rules.specs.Accepted.{IsAccepted, counts}
-use Rattle.numbered_tree.specs.Forms.{class_form, method_form, function_form}
-use Rattle.numbered_tree.specs.NumberedForm.{IsNumberedOf, numbered_class, numbered_function, numbered_selectors, numbered_site, ordered_sites}
+use Rattle.dart_meaning.specs.Forms.{class_form, method_form, function_form}
+use Rattle.dart_meaning.specs.NumberedForm.{IsNumberedOf, numbered_class, numbered_function, numbered_selectors, numbered_site, ordered_sites}
 use Rattle.text_trees.specs.Written.{IsWritten}
 use Rattle.class_proofs.proofs.Lists.{In}
 use Rattle.class_proofs.proofs.Kept.{KeepsClasses, named_none}

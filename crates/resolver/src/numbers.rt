@@ -3,7 +3,7 @@
 ghost use Rattle.std.specs.Prelude.{◌≡◌, ◌≤◌, length};
 ghost use Rattle.dart_syntax.specs.View.{unit};
 ghost use Rattle.dart_meaning.specs.Sites.{text_sites};
-ghost use Rattle.numbered_tree.specs.NumberedForm.{in_order};
+ghost use Rattle.dart_meaning.specs.NumberedForm.{in_order};
 ghost use Rattle.site_list.specs.SourceSites.{listed};
 
 use dart_syntax::token::Span;

@@ -4,7 +4,7 @@ use Rattle.std.proofs.lemmas.List.Sorted.{length_permutation}
 use Rattle.dart_syntax.specs.Syntax.{Tree}
 use Rattle.dart_meaning.specs.Sites.{text_sites}
 use Rattle.dart_meaning.specs.Sites as s
-use Rattle.numbered_tree.specs.NumberedForm.{in_order}
+use Rattle.dart_meaning.specs.NumberedForm.{in_order}
 use Rattle.static_rules.specs.Accepted.{counts, exceeded}
 use Rattle.text_trees.specs.Written.{IsWritten}
 use Rattle.site_tables.proofs.TextSites.{order_moves}

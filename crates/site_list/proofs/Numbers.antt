@@ -9,7 +9,7 @@ use Rattle.dart_syntax.specs.Syntax.{Tree}
 use Rattle.dart_values.specs.Values.{Text}
 use Rattle.dart_meaning.specs.Program.{to_string}
 use Rattle.dart_meaning.specs.Sites.{Site, same_selector, selectors, text_sites, prelude_sites}
-use Rattle.numbered_tree.specs.NumberedForm.{in_order, ordered_sites, numbered_selectors, numbered_site, shown_place, also_used, first_uses}
+use Rattle.dart_meaning.specs.NumberedForm.{in_order, ordered_sites, numbered_selectors, numbered_site, shown_place, also_used, first_uses}
 use Rattle.site_tables.proofs.Selectors.{is_in, in_used, selector_self, position_there, used_append, used_twice, used_place, used_longer, used_kept}
 use Rattle.site_tables.proofs.TextSites.{all_from, all_append, all_map, all_in_order, get_map}
 use Rattle.site_tables.proofs.Tables.{any_from, all_used, as_many_selectors}

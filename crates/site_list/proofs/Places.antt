@@ -12,7 +12,7 @@ use Rattle.std.proofs.lemmas.List.Sorted.{IsNonDecreasingBy-from_sort, IsPartiti
 use denote.Param.Members.{Mut}
 use Rattle.dart_syntax.specs.Syntax.{Tree}
 use Rattle.dart_meaning.specs.Sites.{Site, key, text_sites, site_of}
-use Rattle.numbered_tree.specs.NumberedForm.{in_order}
+use Rattle.dart_meaning.specs.NumberedForm.{in_order}
 use Rattle.site_tables.proofs.Order.{Least, Ordered, ordered_from, ordered_line, line_is, map_line}
 use Rattle.site_tables.proofs.TextSites.{InText, by_place, order_is, order_moves, number_is}
 use Rattle.site_list.specs.declared.site.SitePlace.{SitePlace}

@@ -8,7 +8,7 @@ use Rattle.program.specs.declared.numbered.SelectorKind.TheVariants.{Call, Get, 
 use Rattle.dart_syntax.specs.Syntax.{Tree}
 use Rattle.dart_meaning.specs.Program.{to_string}
 use Rattle.dart_meaning.specs.Sites.{Site, same_selector, distinct, text_sites, prelude_sites, selectors}
-use Rattle.numbered_tree.specs.NumberedForm.{also_used, first_uses}
+use Rattle.dart_meaning.specs.NumberedForm.{also_used, first_uses}
 use Rattle.site_tables.proofs.Selectors.{as_many, used_append, used_twice}
 use Rattle.site_list.specs.declared.site.SourceSelector.{SourceSelector}
 use Rattle.site_list.specs.declared.site.SourceSite.{SourceSite}

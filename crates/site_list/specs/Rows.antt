@@ -8,7 +8,7 @@ use Rattle.dart_values.specs.Values.{Text}
 use Rattle.dart_meaning.specs.Program.{to_string}
 use Rattle.dart_meaning.specs.Sites as s
 use Rattle.dart_meaning.specs.Sites.{Site, same_selector, selectors, text_sites}
-use Rattle.numbered_tree.specs.NumberedForm.{in_order, shown_place}
+use Rattle.dart_meaning.specs.NumberedForm.{in_order, shown_place}
 use Rattle.dart_syntax.specs.Places.{line_at, column_at}
 use Rattle.site_list.specs.declared.cursor.Cursor.{Cursor}
 use Rattle.site_list.specs.declared.site.SourceSite.{SourceSite}

@@ -2,7 +2,7 @@
 
 ghost use Rattle.std.specs.Prelude.{◌≡◌, ◌+◌, ◌-◌, ◌^◌, ◌<◌, ◌≤◌, length};
 ghost use Rattle.dart_meaning.specs.Place.{reading};
-ghost use Rattle.numbered_tree.specs.NumberedForm.{shown_place};
+ghost use Rattle.dart_meaning.specs.NumberedForm.{shown_place};
 ghost use Rattle.site_list.specs.Rows.{Stands};
 
 use program::Place;

@@ -3,7 +3,7 @@
 ghost use Rattle.std.specs.Prelude.{◌≡◌, ◌+◌, ◌≤◌, length, OnOk};
 ghost use Rattle.dart_syntax.specs.Syntax as t;
 ghost use Rattle.dart_meaning.specs.Sites.{key, text_sites, site_of};
-ghost use Rattle.numbered_tree.specs.NumberedForm.{in_order};
+ghost use Rattle.dart_meaning.specs.NumberedForm.{in_order};
 ghost use Rattle.site_list.specs.SourceSites.{place_of, listed};
 
 use crate::site::{SitePlace, SourceSite};

@@ -5,7 +5,7 @@ ghost use Rattle.dart_meaning.specs.Place.{reading, writing};
 ghost use Rattle.dart_meaning.specs.Program as asks;
 ghost use Rattle.dart_meaning.specs.Sites.{site};
 ghost use Rattle.dart_values.specs.Values.{Text};
-ghost use Rattle.numbered_tree.specs.NumberedForm.{shown_place};
+ghost use Rattle.dart_meaning.specs.NumberedForm.{shown_place};
 ghost use Rattle.site_list.specs.SourceSites.{place_of, selector_of, site_of_source};
 
 use dart_syntax::token::Span;

@@ -3,7 +3,7 @@
 ghost use Rattle.std.specs.Prelude.{◌≡◌, ◌-◌, ◌^◌, ◌<◌, ◌≤◌, All, length, map, IfOk};
 ghost use Rattle.dart_syntax.specs.Syntax as t;
 ghost use Rattle.dart_meaning.specs.Sites.{text_sites};
-ghost use Rattle.numbered_tree.specs.NumberedForm.{in_order, ordered_sites, numbered_selectors, numbered_site};
+ghost use Rattle.dart_meaning.specs.NumberedForm.{in_order, ordered_sites, numbered_selectors, numbered_site};
 ghost use Rattle.site_list.specs.Rows.{AreLimited};
 ghost use Rattle.site_list.specs.SourceSites.{selector_of, listed};
 

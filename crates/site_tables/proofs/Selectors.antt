@@ -11,7 +11,7 @@ use Rattle.program.specs.declared.numbered.SelectorKind.TheVariants.{Call, Get, 
 use Rattle.program.specs.Lookup.{same_kind}
 use Rattle.program.proofs.BuiltInSound.{bytes_same, same_bytes}
 use Rattle.dart_meaning.specs.Sites.{same_selector, distinct}
-use Rattle.numbered_tree.specs.NumberedForm.{also_used, first_uses}
+use Rattle.dart_meaning.specs.NumberedForm.{also_used, first_uses}
 
 -- ---- a test of equality
 

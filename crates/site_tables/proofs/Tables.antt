@@ -22,8 +22,8 @@ use Rattle.dart_meaning.specs.Sites.{Site, site, same_selector, sites, selectors
 use Rattle.static_rules.specs.Accepted.{Counts, counts, exceeded, first_over, most}
 use Rattle.static_rules.specs.declared.rule.Limit.{Limit}
 use Rattle.static_rules.specs.declared.rule.Limit.TheVariants as limit
-use Rattle.numbered_tree.specs.Forms.{Form}
-use Rattle.numbered_tree.specs.NumberedForm.{in_order, ordered_sites, numbered_selectors, selector_number, numbered_site, shown_place, also_used, IsNumberedOf}
+use Rattle.dart_meaning.specs.Forms.{Form}
+use Rattle.dart_meaning.specs.NumberedForm.{in_order, ordered_sites, numbered_selectors, selector_number, numbered_site, shown_place, also_used, IsNumberedOf}
 use Rattle.site_tables.proofs.Selectors.{is_in, with_one, in_used, as_many, selector_self, selector_there}
 use Rattle.site_tables.proofs.TextSites.{InText, OfText, of_text, PlacesDiffer, all_at, all_from, all_append, all_map, get_front, get_behind, get_map, order_moves, site_there, all_in_order}
 

@@ -10,7 +10,7 @@ use Rattle.dart_meaning.specs.Sites.{Site, key, if_of_this, sites_of_use, text_s
 use Rattle.dart_meaning.specs.Means.{means, is_of_this}
 use Rattle.dart_meaning.specs.Uses as u
 use Rattle.dart_meaning.specs.Uses.{Use, Part, parts}
-use Rattle.numbered_tree.specs.NumberedForm.{among, in_order, ordered_sites}
+use Rattle.dart_meaning.specs.NumberedForm.{among, in_order, ordered_sites}
 use Rattle.site_tables.proofs.Order.{put_in, in_line, differ_from, line_at, line_moves}
 
 -- ---- facts of each item

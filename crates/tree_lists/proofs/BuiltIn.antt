@@ -9,8 +9,8 @@ use Rattle.program.specs.declared.numbered.Class.{Class}
 use Rattle.program.specs.BuiltIn.{built_in_classes}
 use Rattle.dart_values.specs.Values.{Text}
 use Rattle.dart_meaning.specs.Classes.{children, preorder, class_count, class_named, class_names, class_number, parent_of, field_of, first_some, constructor_in, built_in_names}
-use Rattle.numbered_tree.specs.Forms.{ClassForm, class_form}
-use Rattle.numbered_tree.specs.NumberedForm.{numbered_class, numbered_field, numbered_constructor}
+use Rattle.dart_meaning.specs.Forms.{ClassForm, class_form}
+use Rattle.dart_meaning.specs.NumberedForm.{numbered_class, numbered_field, numbered_constructor}
 
 -- ---- a class that has nothing of its own is known by its form
 

@@ -8,7 +8,7 @@ use Rattle.dart_syntax.specs.View.{function, local}
 use Rattle.dart_values.specs.Values.{Text, Value}
 use Rattle.dart_meaning.specs.Classes.{literal_or_null, field_place, Constructor}
 use Rattle.body_numbers.specs.Bodies.{passed_args, block_or_none}
-use Rattle.numbered_tree.specs.Forms.{FieldForm}
+use Rattle.dart_meaning.specs.Forms.{FieldForm}
 
 -- the local that a reference leads to
 abbrev pub local_of : Bor src.Local → Local

@@ -4,8 +4,8 @@ use Rattle.dart_syntax.specs.Syntax.{Tree, Local, ClassDecl}
 use Rattle.program.specs.declared.numbered.SelectorKind.TheVariants.{Get, Set}
 use Rattle.dart_values.specs.Values.{Text}
 use Rattle.dart_meaning.specs.Classes.{field_place}
-use Rattle.numbered_tree.specs.Forms.{MethodForm, reads_field, writes_field}
-use Rattle.numbered_tree.specs.NumberedForm.{method, numbered_members}
+use Rattle.dart_meaning.specs.Forms.{MethodForm, reads_field, writes_field}
+use Rattle.dart_meaning.specs.NumberedForm.{method, numbered_members}
 
 abbrev pub field_methods : Tree → Text → Local → List MethodForm
 field_methods tree class f =

@@ -3,8 +3,8 @@
 ghost use Rattle.std.specs.Prelude.{◌≡◌, IfOk, map, option_map, length, Some, None};
 ghost use Rattle.dart_syntax.specs.View as view;
 ghost use Rattle.dart_meaning.specs.Classes as c;
-ghost use Rattle.numbered_tree.specs.Forms.{class_form};
-ghost use Rattle.numbered_tree.specs.NumberedForm.{numbered_class};
+ghost use Rattle.dart_meaning.specs.Forms.{class_form};
+ghost use Rattle.dart_meaning.specs.NumberedForm.{numbered_class};
 ghost use Rattle.tree_numbers.specs.ClassFacts.{knows};
 ghost use Rattle.tree_numbers.specs.Asked.{known_of};
 ghost use Rattle.tree_numbers.specs.Parts.{class_of, text_of, texts};

@@ -4,8 +4,8 @@ ghost use Rattle.std.specs.Prelude.{◌≡◌, IfOk, map, option_map, length, So
 ghost use Rattle.dart_syntax.specs.View as view;
 ghost use Rattle.dart_meaning.specs.Classes as c;
 ghost use Rattle.dart_meaning.specs.Numbering as num;
-ghost use Rattle.numbered_tree.specs.Forms.{constructor_form};
-ghost use Rattle.numbered_tree.specs.NumberedForm.{numbered_constructor};
+ghost use Rattle.dart_meaning.specs.Forms.{constructor_form};
+ghost use Rattle.dart_meaning.specs.NumberedForm.{numbered_constructor};
 ghost use Rattle.tree_numbers.specs.Parts.{text_of};
 ghost use Rattle.tree_lists.specs.Locals.{written, set_by};
 

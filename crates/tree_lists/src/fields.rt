@@ -5,7 +5,7 @@ ghost use Rattle.std.specs.List.{cons_option};
 ghost use Rattle.dart_syntax.specs.View.{local, member, top};
 ghost use Rattle.dart_meaning.specs.Classes.{field_of, variable_at, literal_or_null};
 ghost use Rattle.dart_meaning.specs.Numbered.{literal};
-ghost use Rattle.numbered_tree.specs.Forms.{field_form};
+ghost use Rattle.dart_meaning.specs.Forms.{field_form};
 ghost use Rattle.tree_lists.specs.Locals.{local_of, numbered_field, value_of};
 
 use crate::literals::literal_or_null;

@@ -4,8 +4,8 @@ ghost use Rattle.std.specs.Prelude.{◌≡◌, ◌++◌, [], IfOk, OnOk, map, fi
 ghost use Rattle.std.specs.List.{cons_option};
 ghost use Rattle.dart_syntax.specs.View as view;
 ghost use Rattle.dart_meaning.specs.Classes.{function_at};
-ghost use Rattle.numbered_tree.specs.Forms.{function_form};
-ghost use Rattle.numbered_tree.specs.NumberedForm.{numbered_function};
+ghost use Rattle.dart_meaning.specs.Forms.{function_form};
+ghost use Rattle.dart_meaning.specs.NumberedForm.{numbered_function};
 ghost use Rattle.tree_numbers.specs.Parts.{text_of};
 ghost use Rattle.tree_lists.specs.Locals.{function_of};
 

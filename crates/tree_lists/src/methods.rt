@@ -3,8 +3,8 @@
 ghost use Rattle.std.specs.Prelude.{◌≡◌, ◌++◌, ◌∷◌, [], IfOk, OnOk, map, flat_map, option_map, length, Some};
 ghost use Rattle.dart_syntax.specs.View as view;
 ghost use Rattle.dart_meaning.specs.Classes as c;
-ghost use Rattle.numbered_tree.specs.Forms.{method_form, does_form};
-ghost use Rattle.numbered_tree.specs.NumberedForm.{method, with_body, numbered_member};
+ghost use Rattle.dart_meaning.specs.Forms.{method_form, does_form};
+ghost use Rattle.dart_meaning.specs.NumberedForm.{method, with_body, numbered_member};
 ghost use Rattle.tree_numbers.specs.Parts.{class_of, text_of};
 ghost use Rattle.tree_lists.specs.Methods.{field_methods, methods_of};
 

@@ -5,7 +5,7 @@ ghost use Rattle.std.specs.List.{cons_option};
 ghost use Rattle.dart_syntax.specs.View.{param};
 ghost use Rattle.dart_meaning.specs.Classes.{required};
 ghost use Rattle.dart_meaning.specs.Numbered.{literal};
-ghost use Rattle.numbered_tree.specs.NumberedForm.{default, defaults};
+ghost use Rattle.dart_meaning.specs.NumberedForm.{default, defaults};
 
 use crate::literals::literal_or_null;
 use dart_syntax::tree::Param;

@@ -25,8 +25,8 @@ use Rattle.static_rules.specs.Repeats.{repeated}
 use Rattle.static_rules.specs.DuplicateName.{duplicate_name, in_top}
 use Rattle.static_rules.specs.UndefinedName.{has_field}
 use Rattle.static_rules.specs.WrongArgumentsOfStatic.{constructor_count, super_count}
-use Rattle.numbered_tree.specs.Forms.{ClassForm, ConstructorForm, class_form, constructor_form}
-use Rattle.numbered_tree.specs.NumberedForm.{IsNumberedOf, defaults, numbered_class, numbered_constructor, written_constructor}
+use Rattle.dart_meaning.specs.Forms.{ClassForm, ConstructorForm, class_form, constructor_form}
+use Rattle.dart_meaning.specs.NumberedForm.{IsNumberedOf, defaults, numbered_class, numbered_constructor, written_constructor}
 use Rattle.class_proofs.proofs.Lists.{In, NoTwice, same_text, get_in, in_map, in_kept, from_kept, position_spot, spot_none, other_text, texts_differ}
 use Rattle.class_proofs.proofs.Kept.{KeepsClasses, map_twice, none_both, none_twice}
 use Rattle.class_proofs.proofs.Ways.{Known, is_user, user_class, user_known, built_in_known, object_named}

@@ -21,8 +21,8 @@ use Rattle.static_rules.specs.Places.{first_in}
 use Rattle.static_rules.specs.Repeats.{repeated}
 use Rattle.static_rules.specs.DuplicateName.{duplicate_name, in_top}
 use Rattle.static_rules.specs.Accepted.{one_if, methods_of, counts, exceeded}
-use Rattle.numbered_tree.specs.Forms.{Form, MethodForm, FunctionForm, method_form, function_form}
-use Rattle.numbered_tree.specs.NumberedForm.{IsNumberedOf, with_body, numbered_member, numbered_members, numbered_function}
+use Rattle.dart_meaning.specs.Forms.{Form, MethodForm, FunctionForm, method_form, function_form}
+use Rattle.dart_meaning.specs.NumberedForm.{IsNumberedOf, with_body, numbered_member, numbered_members, numbered_function}
 use Rattle.class_proofs.proofs.Lists.{In, NoTwice, get_in, in_map, twice_kept}
 use Rattle.class_proofs.proofs.Kept.{KeepsClasses, map_twice, none_both, none_twice}
 use Rattle.class_proofs.proofs.Numbers.{numbers_count}

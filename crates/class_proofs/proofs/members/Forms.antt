@@ -24,8 +24,8 @@ use Rattle.dart_meaning.specs.Classes as classes
 use Rattle.dart_meaning.specs.Numbering as num
 use Rattle.dart_meaning.specs.Numbered.{literal}
 use Rattle.dart_meaning.specs.Agree.{BothOrNone}
-use Rattle.numbered_tree.specs.Forms.{MethodForm, DoesForm, native, reads_field, writes_field, runs, method_form, does_form}
-use Rattle.numbered_tree.specs.NumberedForm.{default, defaults, numbered_body, method, with_body, numbered_member, numbered_members}
+use Rattle.dart_meaning.specs.Forms.{MethodForm, DoesForm, native, reads_field, writes_field, runs, method_form, does_form}
+use Rattle.dart_meaning.specs.NumberedForm.{default, defaults, numbered_body, method, with_body, numbered_member, numbered_members}
 use Rattle.class_proofs.proofs.Lists.{In, spot_zero, spot_at, spot_map, position_spot, from_map, from_flat, in_get, in_either, same_text, same_or_other}
 use Rattle.class_proofs.proofs.Kept.{KeepsClasses, name_of, user_names, named_none}
 use Rattle.class_proofs.proofs.Ways.{Known, user_class, is_user, user_known}

@@ -22,8 +22,8 @@ use Rattle.dart_meaning.specs.Numbering as num
 use Rattle.dart_meaning.specs.Numbered as n
 use Rattle.dart_meaning.specs.Numbered.{literal, method_found, method_at, of_numbered}
 use Rattle.dart_meaning.specs.Agree.{BothOrNone, IsFound, IsCode}
-use Rattle.numbered_tree.specs.Forms.{Form, MethodForm, method_form, does_form, body_form}
-use Rattle.numbered_tree.specs.NumberedForm.{IsNumberedOf, defaults, numbered_body}
+use Rattle.dart_meaning.specs.Forms.{Form, MethodForm, method_form, does_form, body_form}
+use Rattle.dart_meaning.specs.NumberedForm.{IsNumberedOf, defaults, numbered_body}
 use Rattle.class_proofs.proofs.Lists.{In, spot, spot_zero, spot_map}
 use Rattle.class_proofs.proofs.Kept.{KeepsClasses}
 use Rattle.class_proofs.proofs.Ways.{Known}

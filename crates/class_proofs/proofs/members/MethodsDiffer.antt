@@ -23,8 +23,8 @@ use Rattle.dart_meaning.specs.Means.{top_name, is_built_in}
 use Rattle.static_rules.specs.Places.{first_in}
 use Rattle.static_rules.specs.Repeats.{repeated, repeats, nothing_before}
 use Rattle.static_rules.specs.DuplicateName.{duplicate_name, in_top, in_class, read_name, written_name}
-use Rattle.numbered_tree.specs.Forms.{MethodForm, method_form}
-use Rattle.numbered_tree.specs.NumberedForm.{IsNumberedOf, with_body, numbered_member, numbered_members}
+use Rattle.dart_meaning.specs.Forms.{MethodForm, method_form}
+use Rattle.dart_meaning.specs.NumberedForm.{IsNumberedOf, with_body, numbered_member, numbered_members}
 use Rattle.class_proofs.proofs.Lists.{In, NoTwice, get_in, in_map, from_flat, from_kept, from_map, in_kept}
 use Rattle.class_proofs.proofs.Kept.{KeepsClasses, name_of, none_both, none_in, none_twice}
 use Rattle.class_proofs.proofs.Ways.{user_known}

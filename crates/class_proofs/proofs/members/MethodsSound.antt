@@ -30,8 +30,8 @@ use Rattle.dart_meaning.specs.Classes.{classes, class_number, chain_above, field
 use Rattle.dart_meaning.specs.Numbering as num
 use Rattle.dart_meaning.specs.Numbered.{literal}
 use Rattle.static_rules.specs.BadOverride.{bad_override}
-use Rattle.numbered_tree.specs.Forms.{ClassForm, MethodForm, native, reads_field, writes_field, runs, field_form, method_form, does_form, body_form}
-use Rattle.numbered_tree.specs.NumberedForm.{IsNumberedOf, default, defaults, numbered_field, numbered_body, with_body, numbered_member, numbered_members}
+use Rattle.dart_meaning.specs.Forms.{ClassForm, MethodForm, native, reads_field, writes_field, runs, field_form, method_form, does_form, body_form}
+use Rattle.dart_meaning.specs.NumberedForm.{IsNumberedOf, default, defaults, numbered_field, numbered_body, with_body, numbered_member, numbered_members}
 use Rattle.class_proofs.proofs.Lists.{In, in_kept, in_flat, get_in, from_flat, position_spot, spot_there, spot_is, text_self, texts_differ}
 use Rattle.class_proofs.proofs.Kept.{KeepsClasses}
 use Rattle.class_proofs.proofs.Ways.{Known, user_class}

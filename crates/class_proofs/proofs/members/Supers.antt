@@ -24,8 +24,8 @@ use Rattle.dart_meaning.specs.Means.{super_member}
 use Rattle.dart_meaning.specs.Agree.{FindsAbove, above}
 use Rattle.dart_meaning.specs.Numbered.{literal, method_at, method_found}
 use Rattle.dart_meaning.specs.Numbering.{Key, key, same_key, member_keys, all_keys, member_number, super_class, super_number}
-use Rattle.numbered_tree.specs.Forms.{MethodForm, writes_field, method_form}
-use Rattle.numbered_tree.specs.NumberedForm.{IsNumberedOf, method, numbered_member, numbered_members, with_body}
+use Rattle.dart_meaning.specs.Forms.{MethodForm, writes_field, method_form}
+use Rattle.dart_meaning.specs.NumberedForm.{IsNumberedOf, method, numbered_member, numbered_members, with_body}
 use Rattle.class_proofs.proofs.Lists.{In, spot_map, spot_same, position_spot, text_swap}
 use Rattle.class_proofs.proofs.Kept.{KeepsClasses, map_twice}
 use Rattle.class_proofs.proofs.Ways.{Known, is_user, user_class, user_known}

@@ -1,7 +1,7 @@
 use Rattle.std.proofs.Common.{◌≡◌, ◌∙◌, ap}
 use Rattle.dart_syntax.specs.View.{unit}
 use Rattle.dart_meaning.specs.Sites.{text_sites}
-use Rattle.numbered_tree.specs.NumberedForm.{in_order}
+use Rattle.dart_meaning.specs.NumberedForm.{in_order}
 use Rattle.name_uses.specs.Found.{found}
 use Rattle.resolver.proofs.Programs.{known_parts}
 use Rattle.resolver.proofs.resolving.sites_in_order.Goals as goal

@@ -1,7 +1,7 @@
 use Rattle.std.proofs.Common.{◌≡◌, ◌++◌, drop, map}
 use Rattle.dart_syntax.specs.View.{unit}
-use Rattle.numbered_tree.specs.Forms.{class_form}
-use Rattle.numbered_tree.specs.NumberedForm.{numbered_class}
+use Rattle.dart_meaning.specs.Forms.{class_form}
+use Rattle.dart_meaning.specs.NumberedForm.{numbered_class}
 use Rattle.tree_numbers.specs.Parts.{texts}
 use Rattle.tree_lists.proofs.classes.classes_named.Given as goal
 

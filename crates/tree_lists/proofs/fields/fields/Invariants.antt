@@ -2,7 +2,7 @@ use Rattle.std.proofs.Common.{◌≡◌, ◌++◌, drop, map}
 use Rattle.std.specs.Prelude.{filter_map}
 use Rattle.dart_syntax.specs.View.{member}
 use Rattle.dart_meaning.specs.Classes.{field_of}
-use Rattle.numbered_tree.specs.Forms.{field_form}
+use Rattle.dart_meaning.specs.Forms.{field_form}
 use Rattle.tree_lists.specs.Locals.{numbered_field}
 use Rattle.tree_lists.proofs.fields.fields.Given as goal
 

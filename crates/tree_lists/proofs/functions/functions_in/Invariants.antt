@@ -2,8 +2,8 @@ use Rattle.std.proofs.Common.{◌≡◌, ◌++◌, drop, map}
 use Rattle.std.specs.Prelude.{filter_map}
 use Rattle.dart_syntax.specs.View.{top, unit}
 use Rattle.dart_meaning.specs.Classes.{function_at}
-use Rattle.numbered_tree.specs.Forms.{function_form}
-use Rattle.numbered_tree.specs.NumberedForm.{numbered_function}
+use Rattle.dart_meaning.specs.Forms.{function_form}
+use Rattle.dart_meaning.specs.NumberedForm.{numbered_function}
 use Rattle.tree_lists.proofs.functions.functions_in.Given as goal
 
 abbrev pub invariant-loop-t : goal.invariant-loop-t

@@ -1,8 +1,8 @@
 use Rattle.std.proofs.Common.{◌∙◌, ap, sym, map, option_map, ◌++◌, []}
 use Rattle.dart_syntax.specs.View as view
 use Rattle.program.specs.declared.numbered.SelectorKind.TheVariants.{Call, Get}
-use Rattle.numbered_tree.specs.Forms.{method_form}
-use Rattle.numbered_tree.specs.NumberedForm.{with_body, numbered_member}
+use Rattle.dart_meaning.specs.Forms.{method_form}
+use Rattle.dart_meaning.specs.NumberedForm.{with_body, numbered_member}
 use Rattle.dart_meaning.specs.Operators.{operator_name}
 use Rattle.tree_lists.proofs.methods.add_member.Goals as goal
 

@@ -1,7 +1,7 @@
 use Rattle.std.proofs.Common.{◌≡◌, ◌++◌, drop, map, flat_map}
 use Rattle.dart_syntax.specs.View.{member, unit}
-use Rattle.numbered_tree.specs.Forms.{method_form}
-use Rattle.numbered_tree.specs.NumberedForm.{numbered_member}
+use Rattle.dart_meaning.specs.Forms.{method_form}
+use Rattle.dart_meaning.specs.NumberedForm.{numbered_member}
 use Rattle.tree_lists.proofs.methods.add_members.Given as goal
 
 abbrev pub invariant-loop-m : goal.invariant-loop-m

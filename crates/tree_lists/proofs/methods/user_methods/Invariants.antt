@@ -1,6 +1,6 @@
 use Rattle.std.proofs.Common.{◌≡◌, ◌++◌, drop, map, flat_map}
 use Rattle.dart_syntax.specs.View.{unit}
-use Rattle.numbered_tree.specs.Forms.{method_form}
+use Rattle.dart_meaning.specs.Forms.{method_form}
 use Rattle.tree_lists.specs.Methods.{methods_of}
 use Rattle.tree_numbers.specs.Parts.{class_of}
 use Rattle.tree_lists.proofs.methods.user_methods.Given as goal

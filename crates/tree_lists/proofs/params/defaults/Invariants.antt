@@ -1,7 +1,7 @@
 use Rattle.std.proofs.Common.{◌≡◌, ◌++◌, drop, map}
 use Rattle.dart_syntax.specs.View.{param}
 use Rattle.dart_meaning.specs.Numbered.{literal}
-use Rattle.numbered_tree.specs.NumberedForm.{defaults}
+use Rattle.dart_meaning.specs.NumberedForm.{defaults}
 use Rattle.tree_lists.proofs.params.defaults.Given as goal
 
 abbrev pub invariant-loop-p : goal.invariant-loop-p

@@ -9,19 +9,20 @@ use Rattle.program.specs.declared.numbered.Selector.{Selector}
 use Rattle.program.specs.declared.numbered.SelectorKind.{SelectorKind}
 use Rattle.program.specs.declared.numbered.SelectorKind.TheVariants.{Call, Get, Set}
 use Rattle.program.specs.declared.numbered.Site as program
-use Rattle.program.specs.declared.numbered.Place as program_place
-use Rattle.program.specs.declared.numbered.Place.TheVariants as place
+use Rattle.program.specs.declared.numbered.SitePlace as program_place
+use Rattle.program.specs.declared.numbered.SitePlace.TheVariants as place
 use Rattle.program.specs.BuiltIn.{built_in_classes, built_in_members}
 use Rattle.program.specs.Parts.{Parts}
 use Rattle.dart_values.specs.Values.{Text, Value, null}
 use Rattle.dart_meaning.specs.Place.{Place, reading, writing, in_print, in_list}
 use Rattle.dart_meaning.specs.Operators.{operator_name}
-use Rattle.dart_meaning.specs.Classes.{classes, functions, variables, class_named, class_names, class_number, parent, interfaces_of, is_abstract, own_fields, field_place, required, literal_or_null, constructor_in, first_some, if_so}
+use Rattle.dart_meaning.specs.Classes.{classes, functions, variables, class_named, class_names, class_number, parent, interfaces_of, is_abstract, own_fields, field_place, required, constructor_in, first_some, if_so}
+use Rattle.dart_meaning.specs.Literals.{literal_or_null}
 use Rattle.dart_meaning.specs.Classes as classes
 use Rattle.dart_meaning.specs.Sites.{Site, key, text_sites, prelude_sites, same_selector, site_of}
 use Rattle.dart_meaning.specs.Entry.{globals_of}
 use Rattle.dart_meaning.specs.Numbering as num
-use Rattle.numbered_tree.specs.Forms.{Form, ClassForm, FieldForm, ConstructorForm, MethodForm, FunctionForm, DoesForm, BodyForm, reads_field, writes_field, runs, arrow, block, method_form, form_of}
+use Rattle.dart_meaning.specs.Forms.{Form, ClassForm, FieldForm, ConstructorForm, MethodForm, FunctionForm, DoesForm, BodyForm, reads_field, writes_field, runs, arrow, block, method_form, form_of}
 use Rattle.dart_syntax.specs.Places.{line_at, column_at}
 
 -- what the optional parameters hold where no argument stands
@@ -61,7 +62,7 @@ numbered_selectors tree = first_uses (map (λ (s : Site). s.selector) (ordered_s
 abbrev pub selector_number : Tree → Selector → ℕ
 selector_number tree sel = unwrap_or (position (same_selector sel) (numbered_selectors tree)) 0
 
-abbrev pub shown_place : Text → Place → program_place.Place
+abbrev pub shown_place : Text → Place → program_place.SitePlace
 shown_place text (reading byte) = place.At (line_at text byte) (column_at text byte)
 shown_place text (writing byte) = place.At (line_at text byte) (column_at text byte)
 shown_place text in_print = place.Print

@@ -15,7 +15,7 @@ use Rattle.program.specs.declared.numbered.Site.{Site}
 use Rattle.program.specs.Bodies as c
 use Rattle.program.specs.Parts.{Parts}
 use Rattle.dart_values.specs.Values.{Text, Value}
-use Rattle.dart_meaning.specs.Numbered.{literal}
+use Rattle.dart_meaning.specs.Literals.{literal}
 
 pub data BodyForm : Type 0 where
   arrow : c.Exp → BodyForm

@@ -1,2 +1,0 @@
-//! The numbered form of a tree.
-#![tactic(auto)]
