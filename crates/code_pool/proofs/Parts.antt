@@ -1,19 +1,27 @@
 -- A run over sound units has its parts: places, operands and slots are there at each step.
-use Rattle.std.proofs.Common.{◌≡◌, ℕ, zero, suc, ◌+◌, ◌-◌, ◌<◌, ◌≤◌, Bool, true, false, ◌&&◌, ◌||◌, nat_le, nat_lt, nat_eq, List, [], ◌∷◌, ◌++◌, length, map, take, drop, replicate, slice_get, slice_set, refl, sym, ◌∙◌, ap, subst, arith, length-append}
-use Rattle.std.specs.Prelude.{⊤, Option, Some, None}
+use Rattle.std.proofs.Common.{◌≡◌, ℕ, zero, suc, ◌+◌, ◌-◌, ◌<◌, ◌≤◌, Bool, true, false, not, ◌&&◌, ◌||◌, nat_le, nat_lt, nat_eq, List, [], ◌∷◌, ◌++◌, length, map, take, drop, replicate, slice_get, slice_set, refl, sym, ◌∙◌, ap, subst, arith, length-append}
+use Rattle.std.specs.Prelude.{⊤, Option, Some, None, pos, negsuc}
+use Rattle.dart_values.specs.Natives.{thing_at}
+use Rattle.dart_values.specs.Reads.{text_in}
 use Rattle.std.proofs.lemmas.Bool.Decides.{nat_tests}
 use Rattle.std.proofs.lemmas.Grind.{common_steps}
 use Rattle.std.proofs.lemmas.Option.{slice_get_within}
+use Rattle.program.specs.declared.ids.UnitId.{UnitId}
+use Rattle.program.specs.declared.ids.SelectorId.{SelectorId}
 use Rattle.program.specs.declared.literal.Literal.{Literal}
 use Rattle.program.specs.declared.numbered.Method.{Method}
 use Rattle.program.specs.declared.numbered.Selector.{Selector}
 use Rattle.program.specs.declared.numbered.Target.{Target}
 use Rattle.program.specs.declared.numbered.Target.TheVariants as target
 use Rattle.program.specs.Parts.{Parts}
-use Rattle.dart_values.specs.Values.{Value, null, bool, num, text, at, Thing, object, list, invocation}
-use Rattle.dart_meaning.specs.Run.{Run, Store, Result, went, ended, stack_overflow, M, choose, spend}
+use Rattle.program.specs.BuiltIn.{built_in_members}
+use Rattle.dart_meaning.specs.Calls as calls
+use Rattle.dart_meaning.specs.Calls.{list_to_string}
+use Rattle.dart_meaning.specs.Numbered.{of_numbered, fields}
+use Rattle.dart_values.specs.Values.{Value, null, bool, num, text, at, Thing, object, list, invocation, class_of}
+use Rattle.dart_meaning.specs.Run.{Run, Store, Ending, Result, went, ended, stack_overflow, M, choose, spend, set_field, ask, need_bool, need_text, new, add_line}
 use Rattle.dart_meaning.specs.Literals.{literal}
-use Rattle.dart_meaning.specs.Entry.{greatest_depth}
+use Rattle.dart_meaning.specs.Entry.{greatest_depth, first_store}
 use Rattle.code_unit.specs.declared.instr.Instr.{Instr}
 use Rattle.code_unit.specs.declared.instr.Instr.TheVariants.{Const, Local, SetLocal, Global, SetGlobal, Pop, Dup, Dup2, Jump, JumpIfFalse, ExpectBool, Not, LoopTurn, Call, Equal, CallStatic, CallMethod, Return, Throw, New, SetField, MakeList, Concat, ExpectString, IsClass, Emit, ElementOr}
 use Rattle.code_unit.specs.declared.unit.Unit.{Unit}
@@ -102,6 +110,11 @@ slots_length u args h =
     let rest = length_replicate (u.locals - u.params) null in
     omega (arith, joined, filled, rest)
 
+takes_none : (u : Unit) → nat_eq u.params 0 ≡ true → accepts u 0 ≡ true
+takes_none u h =
+    let none : u.params ≡ 0 = grind (arith, nat_tests) in
+    both_true (nat_le 0 u.params) (nat_le u.params (0 + length u.defaults)) (le_true 0 u.params (omega arith)) (le_true u.params (0 + length u.defaults) (omega (arith, none)))
+
 -- ---- steps
 
 module _ (p : Parts) (pool : Pool) (answers : ℕ → ℕ → Target) (sound : AllSound pool) where
@@ -133,16 +146,16 @@ module _ (p : Parts) (pool : Pool) (answers : ℕ → ℕ → Target) (sound : A
     waiting : Waiting callers f.base
 
   -- what a step may come to
-  abbrev Good : Step → Type 0
-  Good (to s) = Fits s.frame s.callers (length s.values)
-  Good (over e store) = ⊤
-  Good (stuck lack) = IsOwed lack
+  data Good : Step → Type 0 where
+    goes : (s : State) → Fits s.frame s.callers (length s.values) → Good (to s)
+    comes_over : {e : Ending} {store : Store} → Good (over e store)
+    lacks : {lack : Lack} → IsOwed lack → Good (stuck lack)
 
   fits_count : (f : Frame) (callers : List Frame) {m n : ℕ} → m ≡ n → Fits f callers m → Fits f callers n
   fits_count f callers e h = subst (Fits f callers) e h
 
   some_owed : {A : Type 0} (lack : Lack) (o : Option A) (go : A → Step) → IsOwed lack → ((a : A) → o ≡ Some a → Good (go a)) → Good (m.some lack o go)
-  some_owed lack None go owed h = owed
+  some_owed lack None go owed h = lacks owed
   some_owed lack (Some a) go owed h = h a refl
 
   some_there : {A : Type 0} (lack : Lack) (o : Option A) (go : A → Step) (a : A) → o ≡ Some a → Good (go a) → Good (m.some lack o go)
@@ -150,7 +163,11 @@ module _ (p : Parts) (pool : Pool) (answers : ℕ → ℕ → Target) (sound : A
 
   when_owed : (lack : Lack) (b : Bool) (x : Step) → IsOwed lack → (b ≡ true → Good x) → Good (m.when lack b x)
   when_owed lack true x owed h = h refl
-  when_owed lack false x owed h = owed
+  when_owed lack false x owed h = lacks owed
+
+  unless_owed : (lack : Lack) (b : Bool) (x : Step) → IsOwed lack → (b ≡ false → Good x) → Good (m.unless lack b x)
+  unless_owed lack true x owed h = lacks owed
+  unless_owed lack false x owed h = h refl
 
   when_true : (lack : Lack) (b : Bool) (x : Step) → b ≡ true → Good x → Good (m.when lack b x)
   when_true lack b x e h = subst (λ c. Good (m.when lack c x)) (sym e) h
@@ -161,7 +178,7 @@ module _ (p : Parts) (pool : Pool) (answers : ℕ → ℕ → Target) (sound : A
 
   after_good : {A : Type 0} (s : State) (r : Result Value A) (go : A → State → Step) → ((a : A) (store : Store) → Good (go a (record s { store = store }))) → Good (m.after s r go)
   after_good s (went a r) go h = h a r.store
-  after_good s (ended e r) go h = tt
+  after_good s (ended e r) go h = comes_over
 
   by_good : {A : Type 0} (x : M Value A) (s : State) (go : A → State → Step) → ((a : A) (store : Store) → Good (go a (record s { store = store }))) → Good (m.by x s go)
   by_good x s go h = after_good s (x (record { vars = []; this = null; store = s.store })) go h
@@ -180,7 +197,7 @@ module _ (p : Parts) (pool : Pool) (answers : ℕ → ℕ → Target) (sound : A
   two_good (v ∷ w ∷ x ∷ more) go e h = absurd (omega (arith, e))
 
   receiver_good : (vs : List Value) (go : Value → List Value → Step) → ((v : Value) (args : List Value) → Good (go v args)) → Good (m.receiver vs go)
-  receiver_good [] go h = tt
+  receiver_good [] go h = lacks tt
   receiver_good (v ∷ args) go h = h v args
 
   top_good : (n : ℕ) (s : State) (go : List Value → List Value → Step) → n ≤ length s.values
@@ -210,7 +227,13 @@ module _ (p : Parts) (pool : Pool) (answers : ℕ → ℕ → Target) (sound : A
   Ready s below = Fits (next s.frame) s.callers (length below + 1)
 
   push_good : (s : State) (below : List Value) (v : Value) → Ready s below → Good (m.push s below v)
-  push_good s below v h = let joined = length-append below (v ∷ []) in fits_count (next s.frame) s.callers (omega (arith, joined)) h
+  push_good s below v h = let joined = length-append below (v ∷ []) in goes _ (fits_count (next s.frame) s.callers (omega (arith, joined)) h)
+
+  on_good : (s : State) (values : List Value) → Fits (next s.frame) s.callers (length values) → Good (m.on s values)
+  on_good s values h = goes _ h
+
+  jump_good : (t : ℕ) (s : State) (values : List Value) → Fits (record s.frame { place = t }) s.callers (length values) → Good (m.jump t s values)
+  jump_good t s values h = goes _ h
 
   push_waits : (cs : List Frame) (f : Frame) (b : ℕ) → Waiting cs f.base → Waits f b → Waiting (cs ++ f ∷ []) b
   push_waits [] f b h w = (w, tt)
@@ -225,42 +248,60 @@ module _ (p : Parts) (pool : Pool) (answers : ℕ → ℕ → Target) (sound : A
   begin_good u unit s below args is ok h =
       let joined = length-append below (slots unit args) in
       let count = slots_length unit args ok in
-      record {
+      goes _ (record {
         unit = unit;
         is = is;
         depth = 0;
         stated = (sound u unit is).depths.first;
         height = omega (arith, joined, count);
         waiting = push_waits s.callers (next s.frame) (length below) h.waiting (waits (next s.frame) s.callers (length below) h);
-      }
+      })
 
   enter_good : (u : ℕ) (s : State) (below args : List Value) → Ready s below → Good (m.enter p pool answers u s below args)
   enter_good u s below args h = some_owed m.no_number _ _ tt (λ unit is. when_owed m.wrong_count _ _ tt (λ ok.
-      by_good spend s _ (λ _ store. choose_good (nat_lt (length s.callers + 1) greatest_depth) (m.begin u unit (record s { store = store }) below args) (over stack_overflow store) (begin_good u unit (record s { store = store }) below args is ok h) tt)))
+      by_good spend s _ (λ _ store. choose_good (nat_lt (length s.callers + 1) greatest_depth) (m.begin u unit (record s { store = store }) below args) (over stack_overflow store) (begin_good u unit (record s { store = store }) below args is ok h) comes_over)))
+
+  native_as_good : (n c : ℕ) (s : State) (below : List Value) (v : Value) (args : List Value) (k : Method) → Ready s below → Good (m.native_as p pool answers n c s below v args k)
+  native_as_good n c s below v args k h =
+      let go : Step = m.by (calls.natively (of_numbered p) n v args) s (λ w s. m.push s below w) in
+      when_owed m.wrong_receiver (m.is_owned p pool answers c k.owner.0) (m.when m.wrong_count (nat_eq (length args) k.required) go) tt
+      (λ _. when_owed m.wrong_count (nat_eq (length args) k.required) go tt (λ _. by_good (calls.natively (of_numbered p) n v args) s _ (λ w store. push_good (record s { store = store }) below w h)))
 
   natively_good : (n c : ℕ) (s : State) (below : List Value) (v : Value) (args : List Value) → Ready s below → Good (m.natively p pool answers n c s below v args)
-  natively_good n c s below v args h = when_owed m.wrong_kind (m.is_native p pool answers n) _ tt (λ _. some_owed m.no_number _ _ tt (λ k _. when_owed m.wrong_receiver _ _ tt (λ _. when_owed m.wrong_count _ _ tt (λ _.
-      by_good _ s _ (λ w store. push_good (record s { store = store }) below w h)))))
+  natively_good n c s below v args h =
+      let go : (Method → Step) = m.native_as p pool answers n c s below v args in
+      unless_owed m.wrong_kind (nat_eq n list_to_string) (m.some m.no_number (slice_get built_in_members n) go) tt
+      (λ _. some_owed m.no_number (slice_get built_in_members n) go tt (λ k _. native_as_good n c s below v args k h))
 
   perform_good : (does : MethodBody) (c : ℕ) (s : State) (below : List Value) (v : Value) (args : List Value) → Ready s below → Good (m.perform p pool answers does c s below v args)
   perform_good (Native n) c s below v args h = natively_good n.0 c s below v args h
   perform_good (ReadField k) c s below v [] h = when_owed m.wrong_receiver _ _ tt (λ _. push_good s below _ h)
-  perform_good (ReadField k) c s below v (w ∷ more) h = tt
-  perform_good (WriteField k) c s below v [] h = tt
-  perform_good (WriteField k) c s below v (w ∷ []) h = when_owed m.wrong_receiver _ _ tt (λ _. by_good _ s _ (λ _ store. push_good (record s { store = store }) below null h))
-  perform_good (WriteField k) c s below v (w ∷ x ∷ more) h = tt
+  perform_good (ReadField k) c s below v (w ∷ more) h = lacks tt
+  perform_good (WriteField k) c s below v [] h = lacks tt
+  perform_good (WriteField k) c s below v (w ∷ []) h =
+      when_owed m.wrong_receiver (m.has_field s.store.heap v k) (m.by (set_field v k w) s (λ _ s. m.push s below null)) tt
+      (λ _. by_good (set_field v k w) s (λ _ s. m.push s below null) (λ _ store. push_good (record s { store = store }) below null h))
+  perform_good (WriteField k) c s below v (w ∷ x ∷ more) h = lacks tt
   perform_good (Code u) c s below v args h = enter_good u.0 s below (v ∷ args) h
 
   call_good : (k c : ℕ) (s : State) (below : List Value) (v : Value) (args : List Value) → Ready s below → Good (m.call_method p pool answers k c s below v args)
-  call_good k c s below v args h = some_owed m.no_number _ _ tt (λ does _. some_owed m.no_number _ _ tt (λ _ _. when_owed m.wrong_receiver _ _ tt (λ _. perform_good does c s below v args h)))
+  call_good k c s below v args h =
+      let owned : (MethodBody → Method → Step) = (λ does x. m.when m.wrong_receiver (m.is_owned p pool answers c x.owner.0) (m.perform p pool answers does c s below v args)) in
+      let found : (MethodBody → Step) = (λ does. m.some m.no_number (slice_get p.methods k) (owned does)) in
+      some_owed m.no_number (slice_get pool.methods k) found tt (λ does _. some_owed m.no_number (slice_get p.methods k) (owned does) tt (λ x _.
+      when_owed m.wrong_receiver (m.is_owned p pool answers c x.owner.0) (m.perform p pool answers does c s below v args) tt (λ _. perform_good does c s below v args h)))
 
   reach_good : (t : Target) (sel : Selector) (c : ℕ) (s : State) (below : List Value) (v : Value) (args : List Value) → Ready s below → Good (m.reach p pool answers t sel c s below v args)
   reach_good (target.Method k) sel c s below v args h = call_good k.0 c s below v args h
-  reach_good (target.Nsm k) sel c s below v args h = by_good _ s _ (λ i store. call_good k.0 c (record s { store = store }) below v (i ∷ []) h)
+  reach_good (target.Nsm k) sel c s below v args h = by_good (calls.invoked sel args) s (λ i s. m.call_method p pool answers k.0 c s below v (i ∷ [])) (λ i store. call_good k.0 c (record s { store = store }) below v (i ∷ []) h)
 
   send_good : (site : ℕ) (s : State) (below : List Value) (v : Value) (args : List Value) → Ready s below → Good (m.send p pool answers site s below v args)
-  send_good site s below v args h = some_owed m.no_number _ _ tt (λ k _. some_owed m.no_number _ _ tt (λ sel _.
-      by_good _ s _ (λ c store. reach_good _ sel c (record s { store = store }) below v args h)))
+  send_good site s below v args h =
+      let go : (SelectorId → Selector → ℕ → State → Step) = (λ k sel c s. m.reach p pool answers (answers c k.0) sel c s below v args) in
+      let asked : (SelectorId → Selector → Step) = (λ k sel. m.by (ask site v) s (go k sel)) in
+      let found : (SelectorId → Step) = (λ k. m.some m.no_number (slice_get p.selectors k.0) (asked k)) in
+      some_owed m.no_number (slice_get pool.sites site) found tt (λ k _. some_owed m.no_number (slice_get p.selectors k.0) (asked k) tt (λ sel _.
+      by_good (ask site v) s (go k sel) (λ c store. reach_good (answers c k.0) sel c (record s { store = store }) below v args h)))
 
   -- ---- the end of a frame
 
@@ -280,15 +321,128 @@ module _ (p : Parts) (pool : Pool) (answers : ℕ → ℕ → Target) (sound : A
 
   back_good : (s : State) (values : List Value) (o : Option Frame) → slice_get s.callers (length s.callers - 1) ≡ o → length values ≡ s.frame.base + 1 → Waiting s.callers s.frame.base
       → Good (m.back s values o)
-  back_good s values None is count h = tt
+  back_good s values None is count h = comes_over
   back_good s values (Some f) is count h =
       let lt = slice_get_within s.callers (length s.callers - 1) f is in
       let last = last_waits s.callers (length s.callers - 1) s.frame.base f (omega (arith, lt)) is h in
       let w = last.0 in
-      record { unit = w.unit; is = w.is; depth = w.depth; stated = w.stated; height = count ∙ w.height; waiting = last.1 }
+      goes _ (record { unit = w.unit; is = w.is; depth = w.depth; stated = w.stated; height = count ∙ w.height; waiting = last.1 })
 
   leave_good : (s : State) (v : Value) → s.frame.base ≤ length s.values → Waiting s.callers s.frame.base → Good (m.leave s v)
   leave_good s v le h =
       let taken = length_take s.frame.base s.values le in
       let joined = length-append (take s.frame.base s.values) (v ∷ []) in
       back_good s _ _ refl (omega (arith, taken, joined)) h
+
+  -- ---- one instruction
+
+  module _ (s : State) (unit : Unit) (d : ℕ) (height : length s.values ≡ s.frame.base + room unit + d) (is : slice_get pool.units s.frame.unit ≡ Some unit) (waiting : Waiting s.callers s.frame.base) where
+    -- behind the instruction, so many values fit
+    behind : (k n : ℕ) → IsDepth unit (s.frame.place + 1) k → n ≡ s.frame.base + room unit + k → Fits (next s.frame) s.callers n
+    behind k n stated e = record { unit = unit; is = is; depth = k; stated = stated; height = e; waiting = waiting }
+
+    -- and at the place of a jump
+    there : (t k n : ℕ) → IsDepth unit t k → n ≡ s.frame.base + room unit + k → Fits (record s.frame { place = t }) s.callers n
+    there t k n stated e = record { unit = unit; is = is; depth = k; stated = stated; height = e; waiting = waiting }
+
+    act_good : (i : Instr) → HasSlot unit (effect i) → DepthsAgreeAt unit (s.frame.place + 1) d (effect i) → Good (m.act p pool answers unit i s)
+    act_good (Const k) slot h = some_owed m.no_number _ _ tt (λ c _. push_good s s.values (literal c) (behind _ _ h.on (omega (arith, height))))
+    act_good (Local i) slot h =
+        let here = item_at s.values (s.frame.base + i) (omega (arith, height, slot)) in
+        when_true m.no_slot _ _ (lt_true i unit.locals slot) (some_there m.no_slot _ _ here.0 here.1 (push_good s s.values here.0 (behind _ _ h.on (omega (arith, height)))))
+    act_good (SetLocal i) slot h = top_one_good s _ (omega (arith, height, h.operands)) (λ below v e.
+        let count = length_set below (s.frame.base + i) v in
+        let inside : s.frame.base + i < length below = omega (arith, height, slot, e, h.operands) in
+        when_true m.no_slot _ _ (both_true (nat_lt i unit.locals) (nat_lt (s.frame.base + i) (length below)) (lt_true i unit.locals slot) (lt_true (s.frame.base + i) (length below) inside))
+        (on_good s (slice_set below (s.frame.base + i) v) (behind _ _ h.on (omega (arith, height, e, count, h.operands)))))
+    act_good (Global g) slot h = some_owed m.no_number _ _ tt (λ v _. push_good s s.values v (behind _ _ h.on (omega (arith, height))))
+    act_good (SetGlobal g) slot h = top_one_good s _ (omega (arith, height, h.operands)) (λ below v e. when_owed m.no_number (nat_lt g (length s.store.globals)) (m.on (record s { store = record s.store { globals = slice_set s.store.globals g v } }) below) tt (λ _.
+        on_good (record s { store = record s.store { globals = slice_set s.store.globals g v } }) below (behind _ _ h.on (omega (arith, height, e, h.operands)))))
+    act_good Pop slot h = top_one_good s _ (omega (arith, height, h.operands)) (λ below v e. on_good s below (behind _ _ h.on (omega (arith, height, e, h.operands))))
+    act_good Dup slot h = top_one_good s _ (omega (arith, height, h.operands)) (λ below v e.
+        let joined = length-append s.values (v ∷ []) in
+        on_good s (s.values ++ v ∷ []) (behind _ _ h.on (omega (arith, height, joined, h.operands))))
+    act_good Dup2 slot h = top_two_good s _ (omega (arith, height, h.operands)) (λ below v w e.
+        let joined = length-append s.values (v ∷ w ∷ []) in
+        on_good s (s.values ++ v ∷ w ∷ []) (behind _ _ h.on (omega (arith, height, joined, h.operands))))
+    act_good (Jump t) slot h = jump_good t s s.values (there t _ _ h.jump (omega (arith, height)))
+    act_good (JumpIfFalse t) slot h = top_one_good s _ (omega (arith, height, h.operands)) (λ below v e. by_good (need_bool v) s (λ b s. choose b (m.on s below) (m.jump t s below)) (λ b store.
+        choose_good b (m.on (record s { store = store }) below) (m.jump t (record s { store = store }) below) (on_good (record s { store = store }) below (behind _ _ h.on (omega (arith, height, e, h.operands)))) (jump_good t (record s { store = store }) below (there t _ _ h.jump (omega (arith, height, e, h.operands))))))
+    act_good ExpectBool slot h = top_one_good s _ (omega (arith, height, h.operands)) (λ below v e. by_good (need_bool v) s (λ b s. m.push s below (bool b)) (λ b store.
+        push_good (record s { store = store }) below _ (behind _ _ h.on (omega (arith, height, e, h.operands)))))
+    act_good Not slot h = top_one_good s _ (omega (arith, height, h.operands)) (λ below v e. by_good (need_bool v) s (λ b s. m.push s below (bool (not b))) (λ b store.
+        push_good (record s { store = store }) below _ (behind _ _ h.on (omega (arith, height, e, h.operands)))))
+    act_good LoopTurn slot h = by_good spend s (λ _ s. m.on s s.values) (λ _ store. on_good (record s { store = store }) s.values (behind _ _ h.on (omega (arith, height))))
+    act_good (Call site n) slot h = top_good (suc n) s _ (omega (arith, height, h.operands)) (λ below vs e _. receiver_good vs _ (λ v args.
+        send_good site.0 s below v args (behind _ _ h.on (omega (arith, height, e, h.operands)))))
+    act_good (Equal site) slot h = top_two_good s _ (omega (arith, height, h.operands)) (λ below v w e.
+        let ready : Ready s below = behind _ _ h.on (omega (arith, height, e, h.operands)) in
+        choose_good (calls.is_null v || calls.is_null w) (m.push s below (bool (calls.is_null v && calls.is_null w))) (m.send p pool answers site.0 s below v (w ∷ [])) (push_good s below (bool (calls.is_null v && calls.is_null w)) ready) (send_good site.0 s below v (w ∷ []) ready))
+    act_good (CallStatic k n) slot h = top_good n s _ (omega (arith, height, h.operands)) (λ below vs e _. some_owed m.no_number (slice_get pool.statics k) (λ u. m.enter p pool answers u.0 s below vs) tt (λ u _.
+        enter_good u.0 s below vs (behind _ _ h.on (omega (arith, height, e, h.operands)))))
+    act_good (CallMethod k n) slot h = top_good n s _ (omega (arith, height, h.operands)) (λ below vs e _. receiver_good vs _ (λ v args.
+        call_good k.0 (class_of s.store.heap v) s below v args (behind _ _ h.on (omega (arith, height, e, h.operands)))))
+    act_good Return slot h = top_one_good s _ (omega (arith, height, h.operands)) (λ below v e. leave_good s v (omega (arith, height)) waiting)
+    act_good Throw slot h = top_one_good s _ (omega (arith, height, h.operands)) (λ below v e. by_good (calls.throw (of_numbered p) v) s (λ _ s. stuck m.wrong_kind) (λ _ store. lacks tt))
+    act_good (New c) slot h = when_owed m.wrong_class (m.may_make p pool answers c.0) (m.by (new (object c.0 (fields p c.0))) s (λ v s. m.push s s.values v)) tt (λ _. by_good (new (object c.0 (fields p c.0))) s (λ v s. m.push s s.values v) (λ v store. push_good (record s { store = store }) s.values v (behind _ _ h.on (omega (arith, height)))))
+    act_good (SetField k) slot h = top_two_good s _ (omega (arith, height, h.operands)) (λ below v w e. when_owed m.wrong_receiver (m.has_field s.store.heap v k) (m.by (set_field v k w) s (λ _ s. m.on s below)) tt (λ _. by_good (set_field v k w) s (λ _ s. m.on s below) (λ _ store.
+        on_good (record s { store = store }) below (behind _ _ h.on (omega (arith, height, e, h.operands))))))
+    act_good (MakeList n) slot h = top_good n s _ (omega (arith, height, h.operands)) (λ below vs e _. by_good (new (list vs)) s (λ v s. m.push s below v) (λ v store.
+        push_good (record s { store = store }) below v (behind _ _ h.on (omega (arith, height, e, h.operands)))))
+    act_good (Concat n) slot h = top_good n s _ (omega (arith, height, h.operands)) (λ below vs e _. some_owed m.wrong_kind (m.texts vs) (λ t. m.push s below (text t)) tt (λ t _.
+        push_good s below (text t) (behind _ _ h.on (omega (arith, height, e, h.operands)))))
+    act_good ExpectString slot h = top_one_good s _ (omega (arith, height, h.operands)) (λ below v e. by_good (need_text v) s (λ t s. m.push s below (text t)) (λ t store.
+        push_good (record s { store = store }) below _ (behind _ _ h.on (omega (arith, height, e, h.operands)))))
+    act_good (IsClass c) slot h = top_one_good s _ (omega (arith, height, h.operands)) (λ below v e. by_good (calls.is_of (of_numbered p) v c.0) s (λ holds s. m.push s below (bool holds)) (λ holds store.
+        push_good (record s { store = store }) below _ (behind _ _ h.on (omega (arith, height, e, h.operands)))))
+    act_good Emit slot h = top_one_good s _ (omega (arith, height, h.operands)) (λ below v e. some_owed m.wrong_kind (text_in v) (λ t. m.by (add_line t) s (λ _ s. m.on s below)) tt (λ t _. by_good (add_line t) s (λ _ s. m.on s below) (λ _ store.
+        on_good (record s { store = store }) below (behind _ _ h.on (omega (arith, height, e, h.operands))))))
+    act_good (ElementOr t) slot h = top_two_good s _ (omega (arith, height, h.operands)) (λ below v i e.
+        element_good t below v i (λ w x. let joined = length-append below (w ∷ x ∷ []) in behind _ _ h.on (omega (arith, height, e, joined, h.operands))) (there t _ _ h.jump (omega (arith, height, e, h.operands))))
+      where
+        element_in_good : (t : ℕ) (below : List Value) (i : ℕ) (o : Option Thing) → ((w x : Value) → Fits (next s.frame) s.callers (length (below ++ w ∷ x ∷ []))) → Fits (record s.frame { place = t }) s.callers (length below)
+            → Good (m.element_in p pool answers t s below i o)
+        element_in_good t below i None on jump = lacks tt
+        element_in_good t below i (Some (object c held)) on jump = lacks tt
+        element_in_good t below i (Some (list items)) on jump = choose_good (nat_lt i (length items)) _ _ (on_good s _ (on _ _)) (jump_good t s below jump)
+        element_in_good t below i (Some (invocation name args kind)) on jump = lacks tt
+
+        element_good : (t : ℕ) (below : List Value) (v i : Value) → ((w x : Value) → Fits (next s.frame) s.callers (length (below ++ w ∷ x ∷ []))) → Fits (record s.frame { place = t }) s.callers (length below)
+            → Good (m.element p pool answers t s below v i)
+        element_good t below v null on jump = lacks tt
+        element_good t below v (bool b) on jump = lacks tt
+        element_good t below v (num (pos i)) on jump = element_in_good t below i (thing_at s.store.heap v) on jump
+        element_good t below v (num (negsuc i)) on jump = lacks tt
+        element_good t below v (text u) on jump = lacks tt
+        element_good t below v (at a) on jump = lacks tt
+
+  step_good : (s : State) → Fits s.frame s.callers (length s.values) → Good (m.step p pool answers s)
+  step_good s h =
+      let fine = sound s.frame.unit h.unit h.is in
+      let stated = slice_get_within h.unit.depths s.frame.place h.depth h.stated in
+      let here = item_at h.unit.code s.frame.place (omega (arith, stated, fine.depths.stated)) in
+      some_there m.no_place _ _ h.unit h.is (some_there m.no_place _ _ here.0 here.1
+      (act_good s h.unit h.depth h.height h.is h.waiting here.0 (fine.slots s.frame.place here.0 here.1) (fine.depths.steps s.frame.place here.0 h.depth here.1 h.stated)))
+
+  -- ---- runs
+
+  resume_good : (n : ℕ) (x : Step) → Good x → HasItsParts (m.resume x (m.exec p pool answers n))
+  unfolding m.exec
+  resume_good zero (to s) (goes _ h) = tt
+  resume_good (suc n) (to s) (goes _ h) = resume_good n (m.step p pool answers s) (step_good s h)
+  resume_good n (over e store) h = tt
+  resume_good n (stuck lack) (lacks owed) = owed
+
+  started_good : (e turns : ℕ) → Good (m.started p pool answers e turns)
+  started_good e turns = some_owed {A = UnitId} m.no_number _ _ tt (λ u _. some_owed m.no_number _ _ tt (λ unit is. when_owed m.wrong_count _ _ tt (λ none.
+      by_good spend (m.opening u.0 unit (first_store (map literal p.globals) turns)) (λ _ s. to s) (λ _ store. goes (m.opening u.0 unit store) (record {
+        unit = unit;
+        is = is;
+        depth = 0;
+        stated = (sound u.0 unit is).depths.first;
+        height = (let count = slots_length unit [] (takes_none unit none) in omega (arith, count));
+        waiting = tt;
+      })))))
+
+  pub has_its_parts : (e turns n : ℕ) → HasItsParts (m.resume (m.started p pool answers e turns) (m.exec p pool answers n))
+  has_its_parts e turns n = resume_good n (m.started p pool answers e turns) (started_good e turns)

@@ -29,6 +29,6 @@ HasItsParts unfinished = ⊤
 HasItsParts (is_stuck lack) = IsOwed lack
 
 -- From each entry point, for every number of turns and of instructions, a run over sound units lacks no place, no operand and no slot.
-pub SoundUnitsHaveTheirParts : Type 0
+abbrev pub SoundUnitsHaveTheirParts : Type 0
 SoundUnitsHaveTheirParts =
     (p : Parts) (pool : Pool) (answers : ℕ → ℕ → Target) → AllSound pool → (e turns n : ℕ) → HasItsParts (resume (started p pool answers e turns) (exec p pool answers n))

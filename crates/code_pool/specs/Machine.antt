@@ -80,6 +80,10 @@ some lack (Some a) go = go a
 abbrev pub when : Lack → Bool → Step → Step
 when lack holds go = choose holds go (stuck lack)
 
+-- the same for what must not hold
+abbrev pub unless : Lack → Bool → Step → Step
+unless lack holds go = choose holds (stuck lack) go
+
 -- what is below the last n values, and these
 abbrev pub top : ℕ → State → (List Value → List Value → Step) → Step
 top n s go = when no_operand (nat_le n (length s.values)) (go (take (length s.values - n) s.values) (drop (length s.values - n) s.values))
@@ -201,15 +205,14 @@ module _ (p : Parts) (pool : Pool) (answers : ℕ → ℕ → Target) where
   abbrev pub is_owned : ℕ → ℕ → Bool
   is_owned c owner = hierarchy.is_subtype (supers p.classes) c owner
 
-  -- The text of a list takes calls, and is a unit.
-  abbrev pub is_native : ℕ → Bool
-  is_native n = not (nat_eq n list_to_string)
+  -- built-in member n, which the table has as k, on a receiver of class c
+  abbrev pub native_as : ℕ → ℕ → State → List Value → Value → List Value → Method → Step
+  native_as n c s below v args k = when wrong_receiver (is_owned c k.owner.0) (when wrong_count (nat_eq (length args) k.required)
+      (by (calls.natively (of_numbered p) n v args) s (λ w s. push s below w)))
 
-  -- built-in member n, on a receiver of class c
+  -- The text of a list takes calls, so it is none of these, and is a unit.
   abbrev pub natively : ℕ → ℕ → State → List Value → Value → List Value → Step
-  natively n c s below v args = when wrong_kind (is_native n) (some no_number (slice_get built_in_members n) (λ (k : Method).
-      when wrong_receiver (is_owned c k.owner.0) (when wrong_count (nat_eq (length args) k.required)
-      (by (calls.natively (of_numbered p) n v args) s (λ w s. push s below w)))))
+  natively n c s below v args = unless wrong_kind (nat_eq n list_to_string) (some no_number (slice_get built_in_members n) (native_as n c s below v args))
 
   -- What a member does, on a receiver of class c. A unit has the receiver as its first slot; the others spend no turn and have no frame.
   abbrev pub perform : MethodBody → ℕ → State → List Value → Value → List Value → Step

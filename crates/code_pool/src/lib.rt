@@ -3,5 +3,7 @@
 
 pub mod laws;
 mod pool;
+#[cfg(test)]
+mod tests;
 
 pub use pool::{CodePool, Constant, MethodBody};

@@ -3,7 +3,7 @@ ghost use Rattle.std.specs.Prelude.{◌≡◌, ◌<◌, Some, length, slice_get}
 ghost use Rattle.code_pool.specs.Pool.{pool};
 
 use code_unit::Unit;
-use program::{EntryId, Literal, NativeId, SelectorId, SiteId, UnitId, MethodId};
+use program::{EntryId, Literal, MethodId, NativeId, SelectorId, SiteId, UnitId};
 use std::marker::Model;
 
 /// What `Const` pushes.
