@@ -244,6 +244,42 @@ pub constructs_a_chain : machine chained constructs (resolve chained) 0 3
 unfolding exec int_wrap digits resolve lookup no_such_method chain is_subtype
 constructs_a_chain = refl
 
+-- ---- the first example of the repository
+
+-- class A { m() => 7; } main() { print(A().m()); }
+abbrev first_parts : Parts
+first_parts = record (program (declares (codes "A") [] ∷ []) (member (codes "m") 0 ∷ [])) { selectors = calls (codes "m") 0 ∷ to_string ∷ [] }
+
+-- `main`, A's constructor and `m`, with the depths that they state
+abbrev first_pool : Pool
+first_pool = record {
+  units =
+      record {
+        code = New (class 7) ∷ CallStatic 1 1 ∷ Call (site 0) 0 ∷ Call (site 1) 0 ∷ ExpectString ∷ Emit ∷ Const 1 ∷ Pop ∷ Const 1 ∷ Return ∷ [];
+        depths = 0 ∷ 1 ∷ 1 ∷ 1 ∷ 1 ∷ 1 ∷ 0 ∷ 1 ∷ 0 ∷ 1 ∷ [];
+        params = 0;
+        defaults = [];
+        locals = 0;
+      }
+      ∷ record { code = Local 0 ∷ Return ∷ []; depths = 0 ∷ 1 ∷ []; params = 1; defaults = []; locals = 1 }
+      ∷ record { code = Const 0 ∷ Return ∷ []; depths = 0 ∷ 1 ∷ []; params = 1; defaults = []; locals = 1 }
+      ∷ [];
+  constants = l.Int (pos 7) ∷ l.Null ∷ [];
+  statics = record { 0 = 0 } ∷ record { 0 = 1 } ∷ [];
+  sites = record { 0 = 0 } ∷ record { 0 = 1 } ∷ record { 0 = 1 } ∷ [];
+  entries = record { 0 = 0 } ∷ [];
+  methods = natives 49 0 ++ Code (record { 0 = 2 }) ∷ [];
+}
+
+pub first_runs : machine first_parts first_pool (resolve first_parts) 0 3 ≡ ends (record { lines = codes "7" ∷ []; ending = done; asked = (0, 7) ∷ (1, 3) ∷ []; tests = [] })
+unfolding exec int_wrap digits resolve lookup no_such_method chain is_subtype
+first_runs = refl
+
+-- `m` is called, and then no turn is left for it.
+pub first_runs_two_turns : machine first_parts first_pool (resolve first_parts) 0 2 ≡ ends (record { lines = []; ending = out_of_turns; asked = (0, 7) ∷ []; tests = [] })
+unfolding exec int_wrap digits resolve lookup no_such_method chain is_subtype
+first_runs_two_turns = refl
+
 -- ---- what is missing is stuck
 
 -- Const 99 ∷ ..

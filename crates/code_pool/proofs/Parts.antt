@@ -91,7 +91,7 @@ item_at (x ∷ xs) (suc t) lt = item_at xs t (omega arith)
 -- ---- the slots of a unit
 
 -- how many slots a frame of the unit has
-abbrev room : Unit → ℕ
+abbrev pub room : Unit → ℕ
 room u = u.params + (u.locals - u.params)
 
 filled_length : (u : Unit) (args : List Value) → accepts u (length args) ≡ true → length (filled_in u args) ≡ u.params
@@ -119,7 +119,7 @@ takes_none u h =
 
 module _ (p : Parts) (pool : Pool) (answers : ℕ → ℕ → Target) (sound : AllSound pool) where
   -- A frame waits behind its call: the answer comes on top of so many values, and is an operand at its place.
-  record Waits (f : Frame) (below : ℕ) : Type 0 where
+  pub record Waits (f : Frame) (below : ℕ) : Type 0 where
     unit : Unit
     is : slice_get pool.units f.unit ≡ Some unit
     depth : ℕ
@@ -127,17 +127,17 @@ module _ (p : Parts) (pool : Pool) (answers : ℕ → ℕ → Target) (sound : A
     height : below + 1 ≡ f.base + room unit + depth
 
   -- where the slots of the frame behind begin
-  abbrev base_of : List Frame → ℕ → ℕ
+  abbrev pub base_of : List Frame → ℕ → ℕ
   base_of [] b = b
   base_of (f ∷ more) b = f.base
 
   -- each caller waits below the slots of the frame behind it
-  abbrev Waiting : List Frame → ℕ → Type 0
+  abbrev pub Waiting : List Frame → ℕ → Type 0
   Waiting [] b = ⊤
   Waiting (f ∷ more) b = Waits f (base_of more b) × Waiting more b
 
   -- A frame runs with its slots and as many operands as its place states.
-  record Fits (f : Frame) (callers : List Frame) (count : ℕ) : Type 0 where
+  pub record Fits (f : Frame) (callers : List Frame) (count : ℕ) : Type 0 where
     unit : Unit
     is : slice_get pool.units f.unit ≡ Some unit
     depth : ℕ
@@ -146,7 +146,7 @@ module _ (p : Parts) (pool : Pool) (answers : ℕ → ℕ → Target) (sound : A
     waiting : Waiting callers f.base
 
   -- what a step may come to
-  data Good : Step → Type 0 where
+  pub data Good : Step → Type 0 where
     goes : (s : State) → Fits s.frame s.callers (length s.values) → Good (to s)
     comes_over : {e : Ending} {store : Store} → Good (over e store)
     lacks : {lack : Lack} → IsOwed lack → Good (stuck lack)
@@ -393,8 +393,11 @@ module _ (p : Parts) (pool : Pool) (answers : ℕ → ℕ → Target) (sound : A
         push_good s below (text t) (behind _ _ h.on (omega (arith, height, e, h.operands)))))
     act_good ExpectString slot h = top_one_good s _ (omega (arith, height, h.operands)) (λ below v e. by_good (need_text v) s (λ t s. m.push s below (text t)) (λ t store.
         push_good (record s { store = store }) below _ (behind _ _ h.on (omega (arith, height, e, h.operands)))))
-    act_good (IsClass c) slot h = top_one_good s _ (omega (arith, height, h.operands)) (λ below v e. by_good (calls.is_of (of_numbered p) v c.0) s (λ holds s. m.push s below (bool holds)) (λ holds store.
-        push_good (record s { store = store }) below _ (behind _ _ h.on (omega (arith, height, e, h.operands)))))
+    act_good (IsClass c) slot h = top_one_good s _ (omega (arith, height, h.operands)) (λ below v e.
+        let go : (Bool → State → Step) = (λ holds s. m.push s below (bool holds)) in
+        let asked : Step = m.by (calls.is_of (of_numbered p) v c.0) s go in
+        when_owed m.no_number (nat_lt c.0 (length p.classes)) asked tt (λ _. by_good (calls.is_of (of_numbered p) v c.0) s go (λ holds store.
+        push_good (record s { store = store }) below _ (behind _ _ h.on (omega (arith, height, e, h.operands))))))
     act_good Emit slot h = top_one_good s _ (omega (arith, height, h.operands)) (λ below v e. some_owed m.wrong_kind (text_in v) (λ t. m.by (add_line t) s (λ _ s. m.on s below)) tt (λ t _. by_good (add_line t) s (λ _ s. m.on s below) (λ _ store.
         on_good (record s { store = store }) below (behind _ _ h.on (omega (arith, height, e, h.operands))))))
     act_good (ElementOr t) slot h = top_two_good s _ (omega (arith, height, h.operands)) (λ below v i e.
@@ -416,7 +419,8 @@ module _ (p : Parts) (pool : Pool) (answers : ℕ → ℕ → Target) (sound : A
         element_good t below v (text u) on jump = lacks tt
         element_good t below v (at a) on jump = lacks tt
 
-  step_good : (s : State) → Fits s.frame s.callers (length s.values) → Good (m.step p pool answers s)
+  -- A step leads to a state that fits, to the end, or to a lack that no unit shows.
+  pub step_good : (s : State) → Fits s.frame s.callers (length s.values) → Good (m.step p pool answers s)
   step_good s h =
       let fine = sound s.frame.unit h.unit h.is in
       let stated = slice_get_within h.unit.depths s.frame.place h.depth h.stated in
@@ -433,7 +437,7 @@ module _ (p : Parts) (pool : Pool) (answers : ℕ → ℕ → Target) (sound : A
   resume_good n (over e store) h = tt
   resume_good n (stuck lack) (lacks owed) = owed
 
-  started_good : (e turns : ℕ) → Good (m.started p pool answers e turns)
+  pub started_good : (e turns : ℕ) → Good (m.started p pool answers e turns)
   started_good e turns = some_owed {A = UnitId} m.no_number _ _ tt (λ u _. some_owed m.no_number _ _ tt (λ unit is. when_owed m.wrong_count _ _ tt (λ none.
       by_good spend (m.opening u.0 unit (first_store (map literal p.globals) turns)) (λ _ s. to s) (λ _ store. goes (m.opening u.0 unit store) (record {
         unit = unit;

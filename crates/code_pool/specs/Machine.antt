@@ -311,8 +311,8 @@ module _ (p : Parts) (pool : Pool) (answers : ℕ → ℕ → Target) where
   act unit (Concat n) s = top n s (λ below vs. some wrong_kind (texts vs) (λ t. push s below (text t)))
   -- keeps a text; another value is a TypeFault
   act unit ExpectString s = top_one s (λ below v. by (need_text v) s (λ t s. push s below (text t)))
-  -- whether the class of the value is c, or c is above it
-  act unit (IsClass c) s = top_one s (λ below v. by (calls.is_of (of_numbered p) v c.0) s (λ holds s. push s below (bool holds)))
+  -- whether the class of the value is c, or c is above it; null is of class Null alone
+  act unit (IsClass c) s = top_one s (λ below v. when no_number (nat_lt c.0 (length p.classes)) (by (calls.is_of (of_numbered p) v c.0) s (λ holds s. push s below (bool holds))))
   -- pops a text and adds it to the lines
   act unit Emit s = top_one s (λ below v. some wrong_kind (text_in v) (λ t. by (add_line t) s (λ _ s. on s below)))
   -- Takes a list and a number. Pushes the element there and the next number; where there is none, pushes nothing and goes to place t.
