@@ -17,7 +17,3 @@ pub record Pool : Type 0 where
   -- the unit of each entry point
   pub entries : List UnitId
   pub methods : List MethodBody
-
--- the pool of these lists
-abbrev pub pool : List Unit → List Literal → List UnitId → List SelectorId → List UnitId → List MethodBody → Pool
-pool units constants statics sites entries methods = record { units = units; constants = constants; statics = statics; sites = sites; entries = entries; methods = methods }

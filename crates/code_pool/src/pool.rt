@@ -1,6 +1,5 @@
 // The pool.
 ghost use Rattle.std.specs.Prelude.{◌≡◌, ◌<◌, Some, length, slice_get};
-ghost use Rattle.code_pool.specs.Pool.{pool};
 
 use code_unit::Unit;
 use program::{EntryId, Literal, MethodId, NativeId, SelectorId, SiteId, UnitId};
@@ -33,11 +32,16 @@ pub struct CodePool {
 }
 
 impl Model for CodePool {
-    ghost use Rattle.code_pool.specs.Pool.{Pool, pool};
+    ghost use Rattle.code_pool.specs.Pool.{Pool};
 
     ghost Value = { Pool };
 
-    ghost view = { λ p. pool p.units.items p.constants.items p.statics.items p.sites.items p.entries.items p.methods.items };
+    ghost view = {
+        λ p. record {
+            units = p.units.items; constants = p.constants.items; statics = p.statics.items;
+            sites = p.sites.items; entries = p.entries.items; methods = p.methods.items
+        }
+    };
 }
 
 impl CodePool {

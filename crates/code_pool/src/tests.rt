@@ -4,6 +4,9 @@ use program::{EntryId, MethodId, NativeId, SelectorId, SiteId, UnitId};
 use sqlite_items::Items;
 use std::alloc::AllocError;
 
+/// Workers share it.
+fn is_shared<T: Send + Sync>(_: &T) {}
+
 #[test]
 fn gives_what_it_was_built_of(rt: HostRuntime) -> Result<(), AllocError> {
     let alloc = rt.alloc();
@@ -28,5 +31,6 @@ fn gives_what_it_was_built_of(rt: HostRuntime) -> Result<(), AllocError> {
     assert!(rt; pool.site(SiteId(0)) == SelectorId(3));
     assert!(rt; pool.entry_unit(EntryId(0)) == UnitId(0));
     assert!(rt; pool.method_unit(MethodId(0)) == MethodBody::Native(NativeId(5)));
+    is_shared(&pool);
     Ok(())
 }
