@@ -3,11 +3,9 @@ use Rattle.std.proofs.Common.{◌≡◌, ℕ, [], ◌∷◌, ◌++◌, refl, Lis
 use Rattle.std.specs.Prelude.{pos, zero, suc, Some, None, codes, slice_set, false}
 use Rattle.std.specs.Int.{int_wrap}
 use Rattle.std.specs.Fmt.{digits}
-use Rattle.program.specs.declared.literal.Literal.{Literal}
 use Rattle.program.specs.declared.literal.Literal.TheVariants as l
 use Rattle.program.specs.declared.ids.SiteId.{SiteId}
 use Rattle.program.specs.declared.ids.ClassId.{ClassId}
-use Rattle.program.specs.declared.ids.MethodId.{MethodId}
 use Rattle.program.specs.declared.ids.UnitId.{UnitId}
 use Rattle.program.specs.declared.ids.SelectorId.{SelectorId}
 use Rattle.program.specs.declared.numbered.Class.{Class}
@@ -15,8 +13,6 @@ use Rattle.program.specs.declared.numbered.Field.{Field}
 use Rattle.program.specs.declared.numbered.Method.{Method}
 use Rattle.program.specs.declared.numbered.MethodBody.TheVariants as does
 use Rattle.program.specs.declared.numbered.Selector.{Selector}
-use Rattle.program.specs.declared.numbered.Site.{Site}
-use Rattle.program.specs.declared.numbered.SitePlace.TheVariants as place
 use Rattle.program.specs.declared.numbered.SelectorKind.TheVariants as kind
 use Rattle.program.specs.Hierarchy.{chain, is_subtype}
 use Rattle.program.specs.Parts.{Parts}
@@ -25,10 +21,10 @@ use Rattle.program.specs.Lookup.{lookup, resolve, no_such_method}
 use Rattle.dart_values.specs.declared.fault.Trap.TheVariants as trap
 use Rattle.dart_meaning.specs.Run.{done, threw, out_of_turns, stack_overflow}
 use Rattle.code_unit.specs.declared.instr.Instr.{Instr}
-use Rattle.code_unit.specs.declared.instr.Instr.TheVariants.{Const, Local, SetLocal, Global, SetGlobal, Pop, Dup, Dup2, Jump, JumpIfFalse, ExpectBool, Not, LoopTurn, Call, Equal, CallStatic, CallMethod, Return, Throw, New, SetField, MakeList, Concat, ExpectString, IsClass, Emit, ElementOr}
+use Rattle.code_unit.specs.declared.instr.Instr.TheVariants.{Const, Local, SetLocal, Pop, Jump, JumpIfFalse, LoopTurn, Call, CallStatic, CallMethod, Return, New, SetField, MakeList, Concat, ExpectString, Emit, ElementOr}
 use Rattle.code_unit.specs.declared.unit.Unit.{Unit}
 use Rattle.code_pool.specs.declared.pool.MethodBody.{MethodBody}
-use Rattle.code_pool.specs.declared.pool.MethodBody.TheVariants.{Native, ReadField, WriteField, Code}
+use Rattle.code_pool.specs.declared.pool.MethodBody.TheVariants.{Native, ReadField, Code}
 use Rattle.code_pool.specs.Pool.{Pool}
 use Rattle.code_pool.specs.Machine.{ends, is_stuck, no_number, wrong_receiver, machine, exec}
 

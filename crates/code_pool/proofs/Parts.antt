@@ -4,11 +4,9 @@ use Rattle.std.specs.Prelude.{⊤, Option, Some, None, pos, negsuc}
 use Rattle.dart_values.specs.Natives.{thing_at}
 use Rattle.dart_values.specs.Reads.{text_in}
 use Rattle.std.proofs.lemmas.Bool.Decides.{nat_tests}
-use Rattle.std.proofs.lemmas.Grind.{common_steps}
 use Rattle.std.proofs.lemmas.Option.{slice_get_within}
 use Rattle.program.specs.declared.ids.UnitId.{UnitId}
 use Rattle.program.specs.declared.ids.SelectorId.{SelectorId}
-use Rattle.program.specs.declared.literal.Literal.{Literal}
 use Rattle.program.specs.declared.numbered.Method.{Method}
 use Rattle.program.specs.declared.numbered.Selector.{Selector}
 use Rattle.program.specs.declared.numbered.Target.{Target}
@@ -19,14 +17,14 @@ use Rattle.dart_meaning.specs.Calls as calls
 use Rattle.dart_meaning.specs.Calls.{list_to_string}
 use Rattle.dart_meaning.specs.Numbered.{of_numbered, fields}
 use Rattle.dart_values.specs.Values.{Value, null, bool, num, text, at, Thing, object, list, invocation, class_of}
-use Rattle.dart_meaning.specs.Run.{Run, Store, Ending, Result, went, ended, stack_overflow, M, choose, spend, set_field, ask, need_bool, need_text, new, add_line}
+use Rattle.dart_meaning.specs.Run.{Store, Ending, Result, went, ended, stack_overflow, M, choose, spend, set_field, ask, need_bool, need_text, new, add_line}
 use Rattle.dart_meaning.specs.Literals.{literal}
 use Rattle.dart_meaning.specs.Entry.{greatest_depth, first_store}
 use Rattle.code_unit.specs.declared.instr.Instr.{Instr}
 use Rattle.code_unit.specs.declared.instr.Instr.TheVariants.{Const, Local, SetLocal, Global, SetGlobal, Pop, Dup, Dup2, Jump, JumpIfFalse, ExpectBool, Not, LoopTurn, Call, Equal, CallStatic, CallMethod, Return, Throw, New, SetField, MakeList, Concat, ExpectString, IsClass, Emit, ElementOr}
 use Rattle.code_unit.specs.declared.unit.Unit.{Unit}
 use Rattle.code_unit.specs.Effects.{effect}
-use Rattle.code_unit.specs.Sound.{IsAt, IsDepth, HasSlot, DepthsAgreeAt, IsSound}
+use Rattle.code_unit.specs.Sound.{IsDepth, HasSlot, DepthsAgreeAt}
 use Rattle.code_pool.specs.declared.pool.MethodBody.{MethodBody}
 use Rattle.code_pool.specs.declared.pool.MethodBody.TheVariants.{Native, ReadField, WriteField, Code}
 use Rattle.code_pool.specs.Pool.{Pool}

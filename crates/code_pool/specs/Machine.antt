@@ -1,6 +1,5 @@
 -- The machine: what the code of a pool does, one instruction at a time.
 use Rattle.std.specs.Prelude.{ℕ, zero, suc, ◌+◌, ◌-◌, ◌*◌, pos, Bool, not, ◌&&◌, ◌||◌, nat_lt, nat_le, nat_eq, List, [], ◌∷◌, ◌++◌, length, map, take, drop, replicate, slice_get, slice_set, slice_index_or, Option, Some, None, option_map, max}
-use Rattle.program.specs.declared.literal.Literal.{Literal}
 use Rattle.program.specs.declared.numbered.Method.{Method}
 use Rattle.program.specs.declared.numbered.Selector.{Selector}
 use Rattle.program.specs.declared.numbered.Target.{Target}
@@ -11,7 +10,7 @@ use Rattle.program.specs.BuiltIn.{is_open, built_in_members}
 use Rattle.dart_values.specs.Values.{Text, Value, null, bool, num, text, Heap, Thing, object, list, class_of}
 use Rattle.dart_values.specs.Natives.{thing_at}
 use Rattle.dart_values.specs.Reads.{text_in, object_fields, field_of}
-use Rattle.dart_meaning.specs.Run.{Run, Store, Ending, done, stack_overflow, Result, went, ended, M, choose, spend, need_bool, need_text, new, set_field, ask, add_line}
+use Rattle.dart_meaning.specs.Run.{Store, Ending, done, stack_overflow, Result, went, ended, M, choose, spend, need_bool, need_text, new, set_field, ask, add_line}
 use Rattle.dart_meaning.specs.Calls as calls
 use Rattle.dart_meaning.specs.Calls.{is_null, invoked, list_to_string}
 use Rattle.dart_meaning.specs.Literals.{literal}

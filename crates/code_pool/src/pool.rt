@@ -36,12 +36,14 @@ impl Model for CodePool {
 
     ghost Value = { Pool };
 
-    ghost view = {
-        λ p. record {
-            units = p.units.items; constants = p.constants.items; statics = p.statics.items;
-            sites = p.sites.items; entries = p.entries.items; methods = p.methods.items
-        }
-    };
+    ghost view = { λ p. record {
+      units = p.units.items;
+      constants = p.constants.items;
+      statics = p.statics.items;
+      sites = p.sites.items;
+      entries = p.entries.items;
+      methods = p.methods.items;
+    } };
 }
 
 impl CodePool {
