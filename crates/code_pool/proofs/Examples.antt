@@ -26,7 +26,7 @@ use Rattle.code_unit.specs.declared.unit.Unit.{Unit}
 use Rattle.code_pool.specs.declared.pool.MethodBody.{MethodBody}
 use Rattle.code_pool.specs.declared.pool.MethodBody.TheVariants.{Native, ReadField, Code}
 use Rattle.code_pool.specs.Pool.{Pool}
-use Rattle.code_pool.specs.Machine.{ends, is_stuck, no_number, wrong_receiver, machine, exec}
+use Rattle.code_pool.specs.Machine.{Outcome, ends, is_stuck, no_place, no_operand, no_slot, no_number, wrong_receiver, wrong_kind, wrong_class, machine, exec}
 
 -- ---- small programs
 
@@ -278,13 +278,40 @@ first_runs_two_turns = refl
 
 -- ---- what is missing is stuck
 
--- Const 99 ∷ ..
-pub lacks_a_constant : machine (program [] []) (pool (unit 0 0 (Const 99 ∷ Return ∷ []) ∷ []) []) (resolve (program [] [])) 0 1 ≡ is_stuck no_number
+-- an entry point with this code and so many slots
+abbrev alone : ℕ → List Instr → Outcome
+alone locals code = machine (program [] []) (pool (unit 0 locals code ∷ []) []) (resolve (program [] [])) 0 1
+
+-- The code ends without `Return`.
+pub lacks_a_place : alone 0 (Const 0 ∷ Pop ∷ []) ≡ is_stuck no_place
+unfolding exec
+lacks_a_place = refl
+
+-- A slot is no operand.
+pub lacks_an_operand : alone 1 (Pop ∷ Return ∷ []) ≡ is_stuck no_operand
+unfolding exec
+lacks_an_operand = refl
+
+-- An operand is no slot.
+pub lacks_a_slot : alone 0 (Const 0 ∷ Local 0 ∷ Return ∷ []) ≡ is_stuck no_slot
+unfolding exec
+lacks_a_slot = refl
+
+pub lacks_a_constant : alone 0 (Const 99 ∷ Return ∷ []) ≡ is_stuck no_number
 unfolding exec
 lacks_a_constant = refl
 
--- a method called with no receiver's class below its owner: int's `+` on null
-pub lacks_a_receiver : machine (program [] []) (pool (unit 0 0 (Const 4 ∷ Const 1 ∷ CallMethod (record { 0 = 8 }) 2 ∷ Return ∷ []) ∷ []) []) (resolve (program [] [])) 0 1
-    ≡ is_stuck wrong_receiver
+-- `+` of int is called on null.
+pub lacks_a_receiver : alone 0 (Const 4 ∷ Const 1 ∷ CallMethod (record { 0 = 8 }) 2 ∷ Return ∷ []) ≡ is_stuck wrong_receiver
 unfolding exec is_subtype
 lacks_a_receiver = refl
+
+-- An int is no line.
+pub lacks_a_text : alone 0 (Const 1 ∷ Emit ∷ Const 4 ∷ Return ∷ []) ≡ is_stuck wrong_kind
+unfolding exec
+lacks_a_text = refl
+
+-- List is made by `MakeList` alone.
+pub lacks_a_class : alone 0 (New (class 5) ∷ Return ∷ []) ≡ is_stuck wrong_class
+unfolding exec
+lacks_a_class = refl

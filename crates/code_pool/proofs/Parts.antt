@@ -29,7 +29,7 @@ use Rattle.code_pool.specs.declared.pool.MethodBody.{MethodBody}
 use Rattle.code_pool.specs.declared.pool.MethodBody.TheVariants.{Native, ReadField, WriteField, Code}
 use Rattle.code_pool.specs.Pool.{Pool}
 use Rattle.code_pool.specs.Machine as m
-use Rattle.code_pool.specs.Machine.{Frame, State, Lack, Step, to, over, stuck, Outcome, accepts, filled_in, slots}
+use Rattle.code_pool.specs.Machine.{Frame, State, Lack, Step, to, over, stuck, Outcome, slot_count, accepts, filled_in, slots}
 use Rattle.code_pool.specs.Laws.{AllSound, IsOwed, HasItsParts}
 
 -- ---- lists and tests
@@ -88,10 +88,6 @@ item_at (x ∷ xs) (suc t) lt = item_at xs t (omega arith)
 
 -- ---- the slots of a unit
 
--- how many slots a frame of the unit has
-abbrev pub room : Unit → ℕ
-room u = u.params + (u.locals - u.params)
-
 filled_length : (u : Unit) (args : List Value) → accepts u (length args) ≡ true → length (filled_in u args) ≡ u.params
 filled_length u args h =
     let least = true_le (length args) u.params (left_true _ (nat_le u.params (length args + length u.defaults)) h) in
@@ -101,7 +97,7 @@ filled_length u args h =
     let mapped = length_map literal u.defaults in
     omega (arith, least, most, joined, dropped, mapped)
 
-slots_length : (u : Unit) (args : List Value) → accepts u (length args) ≡ true → length (slots u args) ≡ room u
+slots_length : (u : Unit) (args : List Value) → accepts u (length args) ≡ true → length (slots u args) ≡ slot_count u
 slots_length u args h =
     let joined = length-append (filled_in u args) (replicate (u.locals - u.params) null) in
     let filled = filled_length u args h in
@@ -122,7 +118,7 @@ module _ (p : Parts) (pool : Pool) (answers : ℕ → ℕ → Target) (sound : A
     is : slice_get pool.units f.unit ≡ Some unit
     depth : ℕ
     stated : IsDepth unit f.place depth
-    height : below + 1 ≡ f.base + room unit + depth
+    height : below + 1 ≡ f.base + slot_count unit + depth
 
   -- where the slots of the frame behind begin
   abbrev pub base_of : List Frame → ℕ → ℕ
@@ -140,7 +136,7 @@ module _ (p : Parts) (pool : Pool) (answers : ℕ → ℕ → Target) (sound : A
     is : slice_get pool.units f.unit ≡ Some unit
     depth : ℕ
     stated : IsDepth unit f.place depth
-    height : count ≡ f.base + room unit + depth
+    height : count ≡ f.base + slot_count unit + depth
     waiting : Waiting callers f.base
 
   -- what a step may come to
@@ -198,21 +194,21 @@ module _ (p : Parts) (pool : Pool) (answers : ℕ → ℕ → Target) (sound : A
   receiver_good [] go h = lacks tt
   receiver_good (v ∷ args) go h = h v args
 
-  top_good : (n : ℕ) (s : State) (go : List Value → List Value → Step) → n ≤ length s.values
-      → ((below vs : List Value) → length below + n ≡ length s.values → length vs ≡ n → Good (go below vs)) → Good (m.top n s go)
-  top_good n s go le h =
+  top_good : (n : ℕ) (unit : Unit) (s : State) (go : List Value → List Value → Step) → s.frame.base + slot_count unit + n ≤ length s.values
+      → ((below vs : List Value) → length below + n ≡ length s.values → length vs ≡ n → Good (go below vs)) → Good (m.top n unit s go)
+  top_good n unit s go le h =
       let taken = length_take (length s.values - n) s.values (omega arith) in
       let dropped = length_drop (length s.values - n) s.values in
-      when_true m.no_operand _ _ (le_true n (length s.values) le)
+      when_true m.no_operand _ _ (le_true (s.frame.base + slot_count unit + n) (length s.values) le)
       (h (take (length s.values - n) s.values) (drop (length s.values - n) s.values) (omega (arith, taken, le)) (omega (arith, dropped, le)))
 
-  top_one_good : (s : State) (go : List Value → Value → Step) → 1 ≤ length s.values
-      → ((below : List Value) (v : Value) → length below + 1 ≡ length s.values → Good (go below v)) → Good (m.top_one s go)
-  top_one_good s go le h = top_good 1 s _ le (λ below vs e count. one_good vs (go below) count (λ v. h below v e))
+  top_one_good : (unit : Unit) (s : State) (go : List Value → Value → Step) → s.frame.base + slot_count unit + 1 ≤ length s.values
+      → ((below : List Value) (v : Value) → length below + 1 ≡ length s.values → Good (go below v)) → Good (m.top_one unit s go)
+  top_one_good unit s go le h = top_good 1 unit s _ le (λ below vs e count. one_good vs (go below) count (λ v. h below v e))
 
-  top_two_good : (s : State) (go : List Value → Value → Value → Step) → 2 ≤ length s.values
-      → ((below : List Value) (v w : Value) → length below + 2 ≡ length s.values → Good (go below v w)) → Good (m.top_two s go)
-  top_two_good s go le h = top_good 2 s _ le (λ below vs e count. two_good vs (go below) count (λ v w. h below v w e))
+  top_two_good : (unit : Unit) (s : State) (go : List Value → Value → Value → Step) → s.frame.base + slot_count unit + 2 ≤ length s.values
+      → ((below : List Value) (v w : Value) → length below + 2 ≡ length s.values → Good (go below v w)) → Good (m.top_two unit s go)
+  top_two_good unit s go le h = top_good 2 unit s _ le (λ below vs e count. two_good vs (go below) count (λ v w. h below v w e))
 
   -- ---- calls
 
@@ -334,13 +330,13 @@ module _ (p : Parts) (pool : Pool) (answers : ℕ → ℕ → Target) (sound : A
 
   -- ---- one instruction
 
-  module _ (s : State) (unit : Unit) (d : ℕ) (height : length s.values ≡ s.frame.base + room unit + d) (is : slice_get pool.units s.frame.unit ≡ Some unit) (waiting : Waiting s.callers s.frame.base) where
+  module _ (s : State) (unit : Unit) (d : ℕ) (height : length s.values ≡ s.frame.base + slot_count unit + d) (is : slice_get pool.units s.frame.unit ≡ Some unit) (waiting : Waiting s.callers s.frame.base) where
     -- behind the instruction, so many values fit
-    behind : (k n : ℕ) → IsDepth unit (s.frame.place + 1) k → n ≡ s.frame.base + room unit + k → Fits (next s.frame) s.callers n
+    behind : (k n : ℕ) → IsDepth unit (s.frame.place + 1) k → n ≡ s.frame.base + slot_count unit + k → Fits (next s.frame) s.callers n
     behind k n stated e = record { unit = unit; is = is; depth = k; stated = stated; height = e; waiting = waiting }
 
     -- and at the place of a jump
-    there : (t k n : ℕ) → IsDepth unit t k → n ≡ s.frame.base + room unit + k → Fits (record s.frame { place = t }) s.callers n
+    there : (t k n : ℕ) → IsDepth unit t k → n ≡ s.frame.base + slot_count unit + k → Fits (record s.frame { place = t }) s.callers n
     there t k n stated e = record { unit = unit; is = is; depth = k; stated = stated; height = e; waiting = waiting }
 
     act_good : (i : Instr) → HasSlot unit (effect i) → DepthsAgreeAt unit (s.frame.place + 1) d (effect i) → Good (m.act p pool answers unit i s)
@@ -348,57 +344,57 @@ module _ (p : Parts) (pool : Pool) (answers : ℕ → ℕ → Target) (sound : A
     act_good (Local i) slot h =
         let here = item_at s.values (s.frame.base + i) (omega (arith, height, slot)) in
         when_true m.no_slot _ _ (lt_true i unit.locals slot) (some_there m.no_slot _ _ here.0 here.1 (push_good s s.values here.0 (behind _ _ h.on (omega (arith, height)))))
-    act_good (SetLocal i) slot h = top_one_good s _ (omega (arith, height, h.operands)) (λ below v e.
+    act_good (SetLocal i) slot h = top_one_good unit s _ (omega (arith, height, h.operands)) (λ below v e.
         let count = length_set below (s.frame.base + i) v in
         let inside : s.frame.base + i < length below = omega (arith, height, slot, e, h.operands) in
         when_true m.no_slot _ _ (both_true (nat_lt i unit.locals) (nat_lt (s.frame.base + i) (length below)) (lt_true i unit.locals slot) (lt_true (s.frame.base + i) (length below) inside))
         (on_good s (slice_set below (s.frame.base + i) v) (behind _ _ h.on (omega (arith, height, e, count, h.operands)))))
     act_good (Global g) slot h = some_owed m.no_number _ _ tt (λ v _. push_good s s.values v (behind _ _ h.on (omega (arith, height))))
-    act_good (SetGlobal g) slot h = top_one_good s _ (omega (arith, height, h.operands)) (λ below v e. when_owed m.no_number (nat_lt g (length s.store.globals)) (m.on (record s { store = record s.store { globals = slice_set s.store.globals g v } }) below) tt (λ _.
+    act_good (SetGlobal g) slot h = top_one_good unit s _ (omega (arith, height, h.operands)) (λ below v e. when_owed m.no_number (nat_lt g (length s.store.globals)) (m.on (record s { store = record s.store { globals = slice_set s.store.globals g v } }) below) tt (λ _.
         on_good (record s { store = record s.store { globals = slice_set s.store.globals g v } }) below (behind _ _ h.on (omega (arith, height, e, h.operands)))))
-    act_good Pop slot h = top_one_good s _ (omega (arith, height, h.operands)) (λ below v e. on_good s below (behind _ _ h.on (omega (arith, height, e, h.operands))))
-    act_good Dup slot h = top_one_good s _ (omega (arith, height, h.operands)) (λ below v e.
+    act_good Pop slot h = top_one_good unit s _ (omega (arith, height, h.operands)) (λ below v e. on_good s below (behind _ _ h.on (omega (arith, height, e, h.operands))))
+    act_good Dup slot h = top_one_good unit s _ (omega (arith, height, h.operands)) (λ below v e.
         let joined = length-append s.values (v ∷ []) in
         on_good s (s.values ++ v ∷ []) (behind _ _ h.on (omega (arith, height, joined, h.operands))))
-    act_good Dup2 slot h = top_two_good s _ (omega (arith, height, h.operands)) (λ below v w e.
+    act_good Dup2 slot h = top_two_good unit s _ (omega (arith, height, h.operands)) (λ below v w e.
         let joined = length-append s.values (v ∷ w ∷ []) in
         on_good s (s.values ++ v ∷ w ∷ []) (behind _ _ h.on (omega (arith, height, joined, h.operands))))
     act_good (Jump t) slot h = jump_good t s s.values (there t _ _ h.jump (omega (arith, height)))
-    act_good (JumpIfFalse t) slot h = top_one_good s _ (omega (arith, height, h.operands)) (λ below v e. by_good (need_bool v) s (λ b s. choose b (m.on s below) (m.jump t s below)) (λ b store.
+    act_good (JumpIfFalse t) slot h = top_one_good unit s _ (omega (arith, height, h.operands)) (λ below v e. by_good (need_bool v) s (λ b s. choose b (m.on s below) (m.jump t s below)) (λ b store.
         choose_good b (m.on (record s { store = store }) below) (m.jump t (record s { store = store }) below) (on_good (record s { store = store }) below (behind _ _ h.on (omega (arith, height, e, h.operands)))) (jump_good t (record s { store = store }) below (there t _ _ h.jump (omega (arith, height, e, h.operands))))))
-    act_good ExpectBool slot h = top_one_good s _ (omega (arith, height, h.operands)) (λ below v e. by_good (need_bool v) s (λ b s. m.push s below (bool b)) (λ b store.
+    act_good ExpectBool slot h = top_one_good unit s _ (omega (arith, height, h.operands)) (λ below v e. by_good (need_bool v) s (λ b s. m.push s below (bool b)) (λ b store.
         push_good (record s { store = store }) below _ (behind _ _ h.on (omega (arith, height, e, h.operands)))))
-    act_good Not slot h = top_one_good s _ (omega (arith, height, h.operands)) (λ below v e. by_good (need_bool v) s (λ b s. m.push s below (bool (not b))) (λ b store.
+    act_good Not slot h = top_one_good unit s _ (omega (arith, height, h.operands)) (λ below v e. by_good (need_bool v) s (λ b s. m.push s below (bool (not b))) (λ b store.
         push_good (record s { store = store }) below _ (behind _ _ h.on (omega (arith, height, e, h.operands)))))
     act_good LoopTurn slot h = by_good spend s (λ _ s. m.on s s.values) (λ _ store. on_good (record s { store = store }) s.values (behind _ _ h.on (omega (arith, height))))
-    act_good (Call site n) slot h = top_good (suc n) s _ (omega (arith, height, h.operands)) (λ below vs e _. receiver_good vs _ (λ v args.
+    act_good (Call site n) slot h = top_good (suc n) unit s _ (omega (arith, height, h.operands)) (λ below vs e _. receiver_good vs _ (λ v args.
         send_good site.0 s below v args (behind _ _ h.on (omega (arith, height, e, h.operands)))))
-    act_good (Equal site) slot h = top_two_good s _ (omega (arith, height, h.operands)) (λ below v w e.
+    act_good (Equal site) slot h = top_two_good unit s _ (omega (arith, height, h.operands)) (λ below v w e.
         let ready : Ready s below = behind _ _ h.on (omega (arith, height, e, h.operands)) in
         choose_good (calls.is_null v || calls.is_null w) (m.push s below (bool (calls.is_null v && calls.is_null w))) (m.send p pool answers site.0 s below v (w ∷ [])) (push_good s below (bool (calls.is_null v && calls.is_null w)) ready) (send_good site.0 s below v (w ∷ []) ready))
-    act_good (CallStatic k n) slot h = top_good n s _ (omega (arith, height, h.operands)) (λ below vs e _. some_owed m.no_number (slice_get pool.statics k) (λ u. m.enter p pool answers u.0 s below vs) tt (λ u _.
+    act_good (CallStatic k n) slot h = top_good n unit s _ (omega (arith, height, h.operands)) (λ below vs e _. some_owed m.no_number (slice_get pool.statics k) (λ u. m.enter p pool answers u.0 s below vs) tt (λ u _.
         enter_good u.0 s below vs (behind _ _ h.on (omega (arith, height, e, h.operands)))))
-    act_good (CallMethod k n) slot h = top_good n s _ (omega (arith, height, h.operands)) (λ below vs e _. receiver_good vs _ (λ v args.
+    act_good (CallMethod k n) slot h = top_good n unit s _ (omega (arith, height, h.operands)) (λ below vs e _. receiver_good vs _ (λ v args.
         call_good k.0 (class_of s.store.heap v) s below v args (behind _ _ h.on (omega (arith, height, e, h.operands)))))
-    act_good Return slot h = top_one_good s _ (omega (arith, height, h.operands)) (λ below v e. leave_good s v (omega (arith, height)) waiting)
-    act_good Throw slot h = top_one_good s _ (omega (arith, height, h.operands)) (λ below v e. by_good (calls.throw (of_numbered p) v) s (λ _ s. stuck m.wrong_kind) (λ _ store. lacks tt))
+    act_good Return slot h = top_one_good unit s _ (omega (arith, height, h.operands)) (λ below v e. leave_good s v (omega (arith, height)) waiting)
+    act_good Throw slot h = top_one_good unit s _ (omega (arith, height, h.operands)) (λ below v e. by_good (calls.throw (of_numbered p) v) s (λ _ s. stuck m.wrong_kind) (λ _ store. lacks tt))
     act_good (New c) slot h = when_owed m.wrong_class (m.may_make p pool answers c.0) (m.by (new (object c.0 (fields p c.0))) s (λ v s. m.push s s.values v)) tt (λ _. by_good (new (object c.0 (fields p c.0))) s (λ v s. m.push s s.values v) (λ v store. push_good (record s { store = store }) s.values v (behind _ _ h.on (omega (arith, height)))))
-    act_good (SetField k) slot h = top_two_good s _ (omega (arith, height, h.operands)) (λ below v w e. when_owed m.wrong_receiver (m.has_field s.store.heap v k) (m.by (set_field v k w) s (λ _ s. m.on s below)) tt (λ _. by_good (set_field v k w) s (λ _ s. m.on s below) (λ _ store.
+    act_good (SetField k) slot h = top_two_good unit s _ (omega (arith, height, h.operands)) (λ below v w e. when_owed m.wrong_receiver (m.has_field s.store.heap v k) (m.by (set_field v k w) s (λ _ s. m.on s below)) tt (λ _. by_good (set_field v k w) s (λ _ s. m.on s below) (λ _ store.
         on_good (record s { store = store }) below (behind _ _ h.on (omega (arith, height, e, h.operands))))))
-    act_good (MakeList n) slot h = top_good n s _ (omega (arith, height, h.operands)) (λ below vs e _. by_good (new (list vs)) s (λ v s. m.push s below v) (λ v store.
+    act_good (MakeList n) slot h = top_good n unit s _ (omega (arith, height, h.operands)) (λ below vs e _. by_good (new (list vs)) s (λ v s. m.push s below v) (λ v store.
         push_good (record s { store = store }) below v (behind _ _ h.on (omega (arith, height, e, h.operands)))))
-    act_good (Concat n) slot h = top_good n s _ (omega (arith, height, h.operands)) (λ below vs e _. some_owed m.wrong_kind (m.texts vs) (λ t. m.push s below (text t)) tt (λ t _.
+    act_good (Concat n) slot h = top_good n unit s _ (omega (arith, height, h.operands)) (λ below vs e _. some_owed m.wrong_kind (m.texts vs) (λ t. m.push s below (text t)) tt (λ t _.
         push_good s below (text t) (behind _ _ h.on (omega (arith, height, e, h.operands)))))
-    act_good ExpectString slot h = top_one_good s _ (omega (arith, height, h.operands)) (λ below v e. by_good (need_text v) s (λ t s. m.push s below (text t)) (λ t store.
+    act_good ExpectString slot h = top_one_good unit s _ (omega (arith, height, h.operands)) (λ below v e. by_good (need_text v) s (λ t s. m.push s below (text t)) (λ t store.
         push_good (record s { store = store }) below _ (behind _ _ h.on (omega (arith, height, e, h.operands)))))
-    act_good (IsClass c) slot h = top_one_good s _ (omega (arith, height, h.operands)) (λ below v e.
+    act_good (IsClass c) slot h = top_one_good unit s _ (omega (arith, height, h.operands)) (λ below v e.
         let go : (Bool → State → Step) = (λ holds s. m.push s below (bool holds)) in
         let asked : Step = m.by (calls.is_of (of_numbered p) v c.0) s go in
         when_owed m.no_number (nat_lt c.0 (length p.classes)) asked tt (λ _. by_good (calls.is_of (of_numbered p) v c.0) s go (λ holds store.
         push_good (record s { store = store }) below _ (behind _ _ h.on (omega (arith, height, e, h.operands))))))
-    act_good Emit slot h = top_one_good s _ (omega (arith, height, h.operands)) (λ below v e. some_owed m.wrong_kind (text_in v) (λ t. m.by (add_line t) s (λ _ s. m.on s below)) tt (λ t _. by_good (add_line t) s (λ _ s. m.on s below) (λ _ store.
+    act_good Emit slot h = top_one_good unit s _ (omega (arith, height, h.operands)) (λ below v e. some_owed m.wrong_kind (text_in v) (λ t. m.by (add_line t) s (λ _ s. m.on s below)) tt (λ t _. by_good (add_line t) s (λ _ s. m.on s below) (λ _ store.
         on_good (record s { store = store }) below (behind _ _ h.on (omega (arith, height, e, h.operands))))))
-    act_good (ElementOr t) slot h = top_two_good s _ (omega (arith, height, h.operands)) (λ below v i e.
+    act_good (ElementOr t) slot h = top_two_good unit s _ (omega (arith, height, h.operands)) (λ below v i e.
         element_good t below v i (λ w x. let joined = length-append below (w ∷ x ∷ []) in behind _ _ h.on (omega (arith, height, e, joined, h.operands))) (there t _ _ h.jump (omega (arith, height, e, h.operands))))
       where
         element_in_good : (t : ℕ) (below : List Value) (i : ℕ) (o : Option Thing) → ((w x : Value) → Fits (next s.frame) s.callers (length (below ++ w ∷ x ∷ []))) → Fits (record s.frame { place = t }) s.callers (length below)

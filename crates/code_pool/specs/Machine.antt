@@ -83,9 +83,14 @@ when lack holds go = choose holds go (stuck lack)
 abbrev pub unless : Lack → Bool → Step → Step
 unless lack holds go = choose holds (stuck lack) go
 
--- what is below the last n values, and these
-abbrev pub top : ℕ → State → (List Value → List Value → Step) → Step
-top n s go = when no_operand (nat_le n (length s.values)) (go (take (length s.values - n) s.values) (drop (length s.values - n) s.values))
+-- how many slots a frame of the unit has: its parameters and the others
+abbrev pub slot_count : Unit → ℕ
+slot_count unit = unit.params + (unit.locals - unit.params)
+
+-- The top n operands of the frame, with all values below them. Slots, and what callers have, are no operands.
+abbrev pub top : ℕ → Unit → State → (List Value → List Value → Step) → Step
+top n unit s go = when no_operand (nat_le (s.frame.base + slot_count unit + n) (length s.values))
+    (go (take (length s.values - n) s.values) (drop (length s.values - n) s.values))
 
 -- the one value of a list
 abbrev pub one : List Value → (Value → Step) → Step
@@ -102,13 +107,13 @@ abbrev pub receiver : List Value → (Value → List Value → Step) → Step
 receiver (v ∷ args) go = go v args
 receiver [] go = stuck wrong_count
 
--- what is below the top value, and that
-abbrev pub top_one : State → (List Value → Value → Step) → Step
-top_one s go = top 1 s (λ below vs. one vs (go below))
+-- the top operand
+abbrev pub top_one : Unit → State → (List Value → Value → Step) → Step
+top_one unit s go = top 1 unit s (λ below vs. one vs (go below))
 
--- what is below the top two values, and these
-abbrev pub top_two : State → (List Value → Value → Value → Step) → Step
-top_two s go = top 2 s (λ below vs. two vs (go below))
+-- the top two operands
+abbrev pub top_two : Unit → State → (List Value → Value → Value → Step) → Step
+top_two unit s go = top 2 unit s (λ below vs. two vs (go below))
 
 -- on to the next instruction, with these values
 abbrev pub on : State → List Value → Step
@@ -262,60 +267,60 @@ module _ (p : Parts) (pool : Pool) (answers : ℕ → ℕ → Target) where
   -- pushes the value of slot i
   act unit (Local i) s = when no_slot (nat_lt i unit.locals) (some no_slot (slice_get s.values (s.frame.base + i)) (push s s.values))
   -- pops a value into slot i
-  act unit (SetLocal i) s = top_one s (λ below v. when no_slot (nat_lt i unit.locals && nat_lt (s.frame.base + i) (length below))
+  act unit (SetLocal i) s = top_one unit s (λ below v. when no_slot (nat_lt i unit.locals && nat_lt (s.frame.base + i) (length below))
       (on s (slice_set below (s.frame.base + i) v)))
   -- pushes the value of variable g of the top level
   act unit (Global g) s = some no_number (slice_get s.store.globals g) (push s s.values)
   -- pops a value into variable g of the top level
-  act unit (SetGlobal g) s = top_one s (λ below v. when no_number (nat_lt g (length s.store.globals))
+  act unit (SetGlobal g) s = top_one unit s (λ below v. when no_number (nat_lt g (length s.store.globals))
       (on (record s { store = record s.store { globals = slice_set s.store.globals g v } }) below))
   -- drops the top value
-  act unit Pop s = top_one s (λ below v. on s below)
+  act unit Pop s = top_one unit s (λ below v. on s below)
   -- pushes the top value again
-  act unit Dup s = top_one s (λ below v. on s (s.values ++ v ∷ []))
+  act unit Dup s = top_one unit s (λ below v. on s (s.values ++ v ∷ []))
   -- pushes the top two values again
-  act unit Dup2 s = top_two s (λ below v w. on s (s.values ++ v ∷ w ∷ []))
+  act unit Dup2 s = top_two unit s (λ below v w. on s (s.values ++ v ∷ w ∷ []))
   -- goes to place t
   act unit (Jump t) s = jump t s s.values
   -- pops a bool, and goes to place t where it is false; another value is a TypeFault
-  act unit (JumpIfFalse t) s = top_one s (λ below v. by (need_bool v) s (λ b s. choose b (on s below) (jump t s below)))
+  act unit (JumpIfFalse t) s = top_one unit s (λ below v. by (need_bool v) s (λ b s. choose b (on s below) (jump t s below)))
   -- keeps a bool; another value is a TypeFault
-  act unit ExpectBool s = top_one s (λ below v. by (need_bool v) s (λ b s. push s below (bool b)))
+  act unit ExpectBool s = top_one unit s (λ below v. by (need_bool v) s (λ b s. push s below (bool b)))
   -- turns a bool about; another value is a TypeFault
-  act unit Not s = top_one s (λ below v. by (need_bool v) s (λ b s. push s below (bool (not b))))
+  act unit Not s = top_one unit s (λ below v. by (need_bool v) s (λ b s. push s below (bool (not b))))
   -- spends a turn, at each turn of a loop
   act unit LoopTurn s = by spend s (λ _ s. on s s.values)
   -- Takes receiver and n arguments, asks the cell of the site, and calls the target. What is called answers one value.
-  act unit (Call site n) s = top (suc n) s (λ below vs. receiver vs (send site.0 s below))
+  act unit (Call site n) s = top (suc n) unit s (λ below vs. receiver vs (send site.0 s below))
   -- `==` of the lower value with the upper one. With null on either side no cell is asked: the answer is whether both are.
-  act unit (Equal site) s = top_two s (λ below v w. choose (is_null v || is_null w)
+  act unit (Equal site) s = top_two unit s (λ below v w. choose (is_null v || is_null w)
       (push s below (bool (is_null v && is_null w)))
       (send site.0 s below v (w ∷ [])))
   -- enters the unit of function or constructor k with n values; of a constructor the first is the object
-  act unit (CallStatic k n) s = top n s (λ below vs. some no_number (slice_get pool.statics k) (λ u. enter u.0 s below vs))
+  act unit (CallStatic k n) s = top n unit s (λ below vs. some no_number (slice_get pool.statics k) (λ u. enter u.0 s below vs))
   -- calls method m of a superclass with n values, `this` first; no cell is asked
-  act unit (CallMethod m n) s = top n s (λ below vs. receiver vs (λ v. call_method m.0 (class_of s.store.heap v) s below v))
+  act unit (CallMethod m n) s = top n unit s (λ below vs. receiver vs (λ v. call_method m.0 (class_of s.store.heap v) s below v))
   -- answers the top value to the caller
-  act unit Return s = top_one s (λ below v. leave s v)
+  act unit Return s = top_one unit s (λ below v. leave s v)
   -- ends the run with the text of the top value; null is a TypeFault
-  act unit Throw s = top_one s (λ below v. by (calls.throw (of_numbered p) v) s (λ _ s. stuck wrong_kind))
+  act unit Throw s = top_one unit s (λ below v. by (calls.throw (of_numbered p) v) s (λ _ s. stuck wrong_kind))
   -- Pushes a new object with the literals of its fields. `C(args)` makes it behind its arguments, so the code puts these into slots of the unit,
   -- the last one first, makes the object, pushes the slots again above it, and enters the constructor by `CallStatic`.
   act unit (New c) s = when wrong_class (may_make c.0) (by (new (object c.0 (fields p c.0))) s (λ v s. push s s.values v))
   -- pops a value and the object below it, and writes field k of the object, final or not: for the `this.x` of a constructor
-  act unit (SetField k) s = top_two s (λ below v w. when wrong_receiver (has_field s.store.heap v k) (by (set_field v k w) s (λ _ s. on s below)))
+  act unit (SetField k) s = top_two unit s (λ below v w. when wrong_receiver (has_field s.store.heap v k) (by (set_field v k w) s (λ _ s. on s below)))
   -- makes a list of the top n values, the lowest first
-  act unit (MakeList n) s = top n s (λ below vs. by (new (list vs)) s (λ v s. push s below v))
+  act unit (MakeList n) s = top n unit s (λ below vs. by (new (list vs)) s (λ v s. push s below v))
   -- makes a text of the top n texts, the lowest first
-  act unit (Concat n) s = top n s (λ below vs. some wrong_kind (texts vs) (λ t. push s below (text t)))
+  act unit (Concat n) s = top n unit s (λ below vs. some wrong_kind (texts vs) (λ t. push s below (text t)))
   -- keeps a text; another value is a TypeFault
-  act unit ExpectString s = top_one s (λ below v. by (need_text v) s (λ t s. push s below (text t)))
+  act unit ExpectString s = top_one unit s (λ below v. by (need_text v) s (λ t s. push s below (text t)))
   -- whether the class of the value is c, or c is above it; null is of class Null alone
-  act unit (IsClass c) s = top_one s (λ below v. when no_number (nat_lt c.0 (length p.classes)) (by (calls.is_of (of_numbered p) v c.0) s (λ holds s. push s below (bool holds))))
+  act unit (IsClass c) s = top_one unit s (λ below v. when no_number (nat_lt c.0 (length p.classes)) (by (calls.is_of (of_numbered p) v c.0) s (λ holds s. push s below (bool holds))))
   -- pops a text and adds it to the lines
-  act unit Emit s = top_one s (λ below v. some wrong_kind (text_in v) (λ t. by (add_line t) s (λ _ s. on s below)))
+  act unit Emit s = top_one unit s (λ below v. some wrong_kind (text_in v) (λ t. by (add_line t) s (λ _ s. on s below)))
   -- Takes a list and a number. Pushes the element there and the next number; where there is none, pushes nothing and goes to place t.
-  act unit (ElementOr t) s = top_two s (λ below v i. element t s below v i)
+  act unit (ElementOr t) s = top_two unit s (λ below v i. element t s below v i)
 
   -- the instruction at the frame's place
   abbrev pub step : State → Step
