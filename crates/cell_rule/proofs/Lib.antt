@@ -1,1 +1,9 @@
 pub mod Packs
+pub mod Basics
+pub mod Rows
+pub mod Growth
+pub mod Ruling
+pub mod Effects
+pub mod Keeps
+pub mod Views
+pub mod Endings

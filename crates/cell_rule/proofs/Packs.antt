@@ -6,6 +6,8 @@ use Rattle.program.specs.declared.numbered.Target.{Target}
 use Rattle.program.specs.declared.numbered.Target.TheVariants.{Method, Nsm}
 use Rattle.miss_handler.specs.declared.state.CallState.{CallState}
 use Rattle.miss_handler.specs.declared.state.CallState.TheVariants.{Unlinked, Mono, Single, Cached, Mega}
+use Rattle.miss_handler.specs.declared.row.Check.{Check}
+use Rattle.miss_handler.specs.States.{check}
 use Rattle.cell_rule.specs.declared.words.Stub.{Stub}
 use Rattle.cell_rule.specs.declared.words.Stub.TheVariants as stub
 use Rattle.cell_rule.specs.declared.words.Info.{Info}
@@ -131,17 +133,22 @@ stub_parts n k i f e =
     let s : stub_from (n / 65536 % 4294967296) ≡ i.stub = ap stub_from d.stub ∙ stub_back i.stub in
     λ j. entry (s j) (t j)
 
-pub check_inj : (c : ℕ) (t : Target) (c' : ℕ) (t' : Target) → CheckFits c t → CheckFits c' t' → check_word c t ≡ check_word c' t' → (c ≡ c') × (t ≡ t')
+pub check_inj : (k l : Check) → CheckFits k → CheckFits l → check_word k ≡ check_word l → k ≡ l
 unfolding check_word
-check_inj c t c' t' f f' e =
-    let d0 = digit 65536 (65536 + c) (target_field t) (65536 + c') (target_field t') (field_small t f.target) (field_small t' f'.target) e in let same = d0.0 in
-    (omega arith, sym (target_back t f.target) ∙ (ap target_from d0.1 ∙ target_back t' f'.target))
+check_inj k l f g e =
+    let d = digit 65536 (65536 + k.class.0) (target_field k.target) (65536 + l.class.0) (target_field l.target) (field_small k.target f.target) (field_small l.target g.target) e in
+    let classes = d.0 in let same : k.class.0 ≡ l.class.0 = omega arith in
+    let targets : k.target ≡ l.target = sym (target_back k.target f.target) ∙ (ap target_from d.1 ∙ target_back l.target g.target) in
+    λ j. check (same j) (targets j)
 
-pub check_some : (c : ℕ) (t : Target) → ¬ (check_word c t ≡ 0)
+-- a check that is set is not empty
+pub check_some : (k : Check) → ¬ (check_word k ≡ 0)
 unfolding check_word
-check_some c t e = omega arith
+check_some k e = omega arith
 
 -- the parts of a check
-pub check_parts : (n c : ℕ) (t : Target) → CheckFits c t → n ≡ check_word c t → (n / 65536 % 4096 ≡ c) × (target_from (n % 65536) ≡ t)
+pub check_parts : (n : ℕ) (k : Check) → CheckFits k → n ≡ check_word k → (n / 65536 % 4096 ≡ k.class.0) × (target_from (n % 65536) ≡ k.target)
 unfolding check_word
-check_parts n c t f e = let a = field_small t f.target in let b = f.class in let field : n % 65536 ≡ target_field t = omega arith in (omega arith, ap target_from field ∙ target_back t f.target)
+check_parts n k f e =
+    let a = field_small k.target f.target in let b = f.class in let field : n % 65536 ≡ target_field k.target = omega arith in
+    (omega arith, ap target_from field ∙ target_back k.target f.target)

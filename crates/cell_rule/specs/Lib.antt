@@ -1,2 +1,9 @@
 pub mod Words
 pub mod Unpacked
+pub mod Lists
+pub mod About
+pub mod Histories
+pub mod Rule
+pub mod Told
+pub mod Stamps
+pub mod Steps

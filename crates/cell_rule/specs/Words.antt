@@ -4,6 +4,7 @@ use Rattle.program.specs.declared.numbered.Target.{Target}
 use Rattle.program.specs.declared.numbered.Target.TheVariants.{Method, Nsm}
 use Rattle.miss_handler.specs.declared.state.CallState.{CallState}
 use Rattle.miss_handler.specs.declared.state.CallState.TheVariants.{Unlinked, Mono, Single, Cached, Mega}
+use Rattle.miss_handler.specs.declared.row.Check.{Check}
 use Rattle.cell_rule.specs.declared.words.Stub.{Stub}
 use Rattle.cell_rule.specs.declared.words.Stub.TheVariants as stub
 use Rattle.cell_rule.specs.declared.words.Info.{Info}
@@ -68,8 +69,8 @@ unfoldable pub target_word : ℕ → Entry → ℕ
 target_word k e = (k * 4294967296 + stub_number e.stub) * 65536 + target_field e.target
 
 -- a check that is set: bit 32 is one, bits 16 to 27 are the class, bits 0 to 15 its target
-unfoldable pub check_word : ℕ → Target → ℕ
-check_word c t = (65536 + c) * 65536 + target_field t
+unfoldable pub check_word : Check → ℕ
+check_word k = (65536 + k.class.0) * 65536 + target_field k.target
 
 -- classes fit 12 bits; the target is the state's own in Single, any one in Mono, and none elsewhere
 abbrev pub StateFits : CallState → Target → Type 0
@@ -97,9 +98,9 @@ pub record TargetFits (k : ℕ) (e : Entry) : Type 0 where
   pub target : IsSmall e.target
 
 -- what a check can hold
-pub record CheckFits (c : ℕ) (t : Target) : Type 0 where
-  pub class : c < 4096
-  pub target : IsSmall t
+pub record CheckFits (k : Check) : Type 0 where
+  pub class : k.class.0 < 4096
+  pub target : IsSmall k.target
 
 -- a packed data word
 abbrev pub IsDataWord : ℕ → Type 0
@@ -111,7 +112,7 @@ IsTargetWord n = (k : ℕ) × (e : Entry) × TargetFits k e × (n ≡ target_wor
 
 -- a check that is set
 abbrev pub IsCheckWord : ℕ → Type 0
-IsCheckWord n = (c : ℕ) × (t : Target) × CheckFits c t × (n ≡ check_word c t)
+IsCheckWord n = (k : Check) × CheckFits k × (n ≡ check_word k)
 
 -- what the target word of the same stamp says
 abbrev pub entry_at : CallState → Target → Entry

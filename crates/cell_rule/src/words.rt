@@ -13,7 +13,7 @@ ghost use Rattle.cell_rule.specs.Unpacked.{target_from, state_from, stub_from};
 ghost use Rattle.cell_rule.specs.declared.words.Info.{Info as What};
 ghost use Rattle.std.specs.Prelude.{◌≡◌, ℕ, ◌<◌, IsTrue, ◌↔◌, MatchOption};
 
-use miss_handler::CallState;
+use miss_handler::{CallState, Check};
 use program::{ClassId, MethodId, Target};
 
 // How many values each part has room for.
@@ -221,23 +221,24 @@ pub fn target_of(word: u64) -> u64
     }
 }
 
-/// The check of a class and its target.
+/// A check as a word.
 #[tactic(auto, unfolding(crate::specs::Words::check_word))]
-pub fn pack_check(class: ClassId, t: Target) -> u64
-    requires { CheckFits class.0 t }
-    ensures { result ≡ check_word class.0 t }
+pub fn pack_check(check: Check) -> u64
+    requires { CheckFits check }
+    ensures { result ≡ check_word check }
 {
-    (0x1_0000 + class.0 as u64) * TARGETS + field(t)
+    (0x1_0000 + check.class.0 as u64) * TARGETS + field(check.target)
 }
 
-/// The class and the target of a check. None for what is no check that is set, as an empty one.
-pub fn unpack_check(word: u64) -> Option<(ClassId, Target)>
-    ensures { MatchOption result (¬ IsCheckWord word) (λ r. CheckFits r.0.0 r.1 × (word ≡ check_word r.0.0 r.1)) }
+/// The check of a word. None for what is no check that is set, as an empty one.
+pub fn unpack_check(word: u64) -> Option<Check>
+    ensures { MatchOption result (¬ IsCheckWord word) (λ r. CheckFits r × (word ≡ check_word r)) }
 {
     let target = target_in((word % TARGETS) as u16);
     let class = ClassId((word / TARGETS % CLASSES) as u16);
-    if pack_check(class, target) == word {
-        Some((class, target))
+    let check = Check { class, target };
+    if pack_check(check) == word {
+        Some(check)
     } else {
         None
     }
