@@ -1,0 +1,5 @@
+pub mod Orders
+pub mod Tests
+pub mod Moves
+pub mod Runs
+pub mod Examples
