@@ -91,7 +91,7 @@ module _ (p : About) where
       record { class = omega arith; target = subst IsSmall (sym is) (sound.small x k.class.0) }
 
   -- a step that leaves the word i at m, and tells its seat `told`
-  abbrev Done : State (Unit {0}) View → ℕ → ℕ → Sat → ℕ → (Sat → Type 0) → Type 0
+  abbrev pub Done : State (Unit {0}) View → ℕ → ℕ → Sat → ℕ → (Sat → Type 0) → Type 0
   Done s i id me m told = (w : View) × (a : Act (Unit {0})) × Valid s.homes me.1 a × Ruled p (stepped s i m id me.1 w a) × told (w, carried_after me.1 a)
 
   module _ (s : State (Unit {0}) View) (r : Ruled p s) (id : ℕ) (me : Sat) (at : get_elem? s.views id ≡ some me.0) (x : ℕ) (l : x < p.sites) (some_share : 0 < me.0.share) where

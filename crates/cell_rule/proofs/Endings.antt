@@ -1,5 +1,7 @@
 -- The pass that has every share knows all.
 use Rattle.std.proofs.Common.{◌≡◌, ◌≢◌, ℕ, zero, suc, ◌<◌, ◌≤◌, ◌==◌, max, cond, true, false, List, [], ◌∷◌, ◌++◌, sum_by, sym, refl, ap, ◌∙◌, subst, ⊎_elim, arith}
+use Rattle.std.proofs.lemmas.Bool.{eq-eqb}
+use Rattle.std.proofs.lemmas.Bool.Decides.{nat_tests}
 use mathlib.Core.Logic.{dite}
 use mathlib.Core.Option.{some, some-injective}
 use native.Mathlib.Decide.{ℕ_discrete, dec_le}
@@ -17,7 +19,7 @@ use Rattle.cell_rule.specs.Lists.{Each, Has}
 use Rattle.cell_rule.specs.About.{About}
 use Rattle.cell_rule.specs.Histories.{Histories, present, Known, Explained, settled, call, Called}
 use Rattle.cell_rule.specs.Rule.{share, Worded, Ruled}
-use Rattle.cell_rule.specs.Stamps.{head_part, head_stamp, data_stamp, Settled}
+use Rattle.cell_rule.specs.Stamps.{head_part, data_part, head_stamp, data_stamp, Settled}
 use Rattle.cell_rule.specs.Told.{Learnt}
 use Rattle.cell_rule.specs.Steps.{Coherent, EndsAs}
 use Rattle.cell_rule.proofs.Basics.{each_has}
@@ -33,29 +35,41 @@ coheres p h v l x k k' i i' a b le =
     let n : Known p h (Data x k i) = known_of p h v l (Data x k i) a in let m : Known p h (Data x k' i') = known_of p h v l (Data x k' i') b in
     subst (λ (z : Info × Info). Later z.0.state z.1.state) (λ j. (sym n.2 j, sym m.2 j)) ((l.good x n.0).rising k k' le m.1)
 
+part_has : (x k : ℕ) → cond {A = ℕ} (x == x) k 0 ≡ k
+part_has x k = ap (λ b. cond {A = ℕ} b k 0) (eq-eqb x x refl)
+
 -- a stamp seen is at most the greatest one
+pub head_has : (x k : ℕ) (e : Entry) (l : List Seen) → Has (Head x k e) l → k ≤ head_stamp x l
+head_has x k e [] h = absurd h
+head_has x k e (s ∷ l) h = ⊎_elim (λ (q : Head x k e ≡ s). let a = ap (head_part x) q in let b = part_has x k in omega arith) (λ (q : Has (Head x k e) l). let r = head_has x k e l q in omega arith) h
+
 pub data_has : (x k : ℕ) (i : Info) (l : List Seen) → Has (Data x k i) l → k ≤ data_stamp x l
 data_has x k i [] h = absurd h
-data_has x k i (s ∷ l) h = ⊎_elim (λ (e : Data x k i ≡ s). let here : Rattle.cell_rule.specs.Stamps.data_part x s ≡ k = ap (Rattle.cell_rule.specs.Stamps.data_part x) (sym e) ∙ same x k in omega arith)
-    (λ (t : Has (Data x k i) l). let r = data_has x k i l t in omega arith) h
-  where
-    same : (x k : ℕ) → cond {A = ℕ} (x == x) k 0 ≡ k
-    same x k = omega arith
+data_has x k i (s ∷ l) h = ⊎_elim (λ (q : Data x k i ≡ s). let a = ap (data_part x) q in let b = part_has x k in omega arith) (λ (q : Has (Data x k i) l). let r = data_has x k i l q in omega arith) h
 
-head_known_part : (p : About) (h : Histories) (x : ℕ) (s : Seen) → Known p h s → head_part x s ≤ (h x).low
-head_known_part p h x (Head y k e) n = by_site (ℕ_discrete y x)
-  where
-    by_site : Dec (y ≡ x) → cond {A = ℕ} (y == x) k 0 ≤ (h x).low
-    by_site (yes e) = let a : k ≤ (h x).low = subst (λ (z : ℕ). k ≤ (h z).low) e n.1 in omega arith
-    by_site (no e) = omega arith
-head_known_part p h x (Data y k i) n = omega arith
-head_known_part p h x (Set y q k) n = omega arith
-head_known_part p h x (Empty y q) n = omega arith
+part_below : (y x k n : ℕ) → (y ≡ x → k ≤ n) → cond {A = ℕ} (y == x) k 0 ≤ n
+part_below y x k n h = grind (arith, nat_tests)
 
--- the greatest stamp of a target word seen is at most the present one
+data_below : (p : About) (h : Histories) (x : ℕ) (s : Seen) → Known p h s → data_part x s ≤ (h x).top
+data_below p h x (Head y k e) n = omega arith
+data_below p h x (Set y q k) n = omega arith
+data_below p h x (Empty y q) n = omega arith
+data_below p h x (Data y k i) n = part_below y x k (h x).top (λ e. subst (λ (z : ℕ). k ≤ (h z).top) e n.1)
+
+-- the greatest stamp seen is at most the present one
+pub data_known : (p : About) (h : Histories) (x : ℕ) (l : List Seen) → Each (Known p h) l → data_stamp x l ≤ (h x).top
+data_known p h x [] e = omega arith
+data_known p h x (s ∷ l) e = let a = data_below p h x s e.0 in let b = data_known p h x l e.1 in omega arith
+
+head_below : (p : About) (h : Histories) (x : ℕ) (s : Seen) → Known p h s → head_part x s ≤ (h x).low
+head_below p h x (Head y k e) n = part_below y x k (h x).low (λ e. subst (λ (z : ℕ). k ≤ (h z).low) e n.1)
+head_below p h x (Data y k i) n = omega arith
+head_below p h x (Set y q k) n = omega arith
+head_below p h x (Empty y q) n = omega arith
+
 pub head_known : (p : About) (h : Histories) (x : ℕ) (l : List Seen) → Each (Known p h) l → head_stamp x l ≤ (h x).low
-head_known p h x [] k = omega arith
-head_known p h x (s ∷ l) k = let a = head_known_part p h x s k.0 in let b = head_known p h x l k.1 in omega arith
+head_known p h x [] e = omega arith
+head_known p h x (s ∷ l) e = let a = head_below p h x s e.0 in let b = head_known p h x l e.1 in omega arith
 
 module _ (p : About) (s : State (Unit {0}) View) (r : Ruled p s) (id : ℕ) (v : View) (at : get_elem? s.views id ≡ some v) (whole : v.share ≡ 65536) where
   -- what stands in some view stands in this one

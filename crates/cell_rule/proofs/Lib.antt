@@ -2,8 +2,10 @@ pub mod Packs
 pub mod Basics
 pub mod Rows
 pub mod Growth
+pub mod Programs
 pub mod Ruling
 pub mod Effects
 pub mod Keeps
 pub mod Views
 pub mod Endings
+pub mod Telling

@@ -47,19 +47,19 @@ module _ (p : About) where
       pub asked : (a : Asked) → Has a me.0.asked → Has a w.asked
       pub share : w.share ≡ me.0.share
 
-    called : (w : View) → Wider w → (x c : ℕ) → Called s.views x c → Called (set s.views id w) x c
+    pub called : (w : View) → Wider w → (x c : ℕ) → Called s.views x c → Called (set s.views id w) x c
     called w wider x c = in_set (λ v. Has (call x c) v.asked) s.views id me.0 w at (wider.asked (call x c))
 
-    reached_after : (w : View) → Wider w → (x : ℕ) → x < p.sites → (k : ℕ) → k ≤ (r.h x).top → Reached (p.at x) k ((r.h x).at k).state (Called (set s.views id w) x)
+    pub reached_after : (w : View) → Wider w → (x : ℕ) → x < p.sites → (k : ℕ) → k ≤ (r.h x).top → Reached (p.at x) k ((r.h x).at k).state (Called (set s.views id w) x)
     reached_after w wider x l k le = reached_more (p.at x) k ((r.h x).at k).state (Called s.views x) (Called (set s.views id w) x) (called w wider x) (r.reached x l k le)
 
-    checked_after : (w : View) → Wider w → (x : ℕ) → x < p.sites → Each (λ k. Called (set s.views id w) x k.class.0) (r.h x).row
+    pub checked_after : (w : View) → Wider w → (x : ℕ) → x < p.sites → Each (λ k. Called (set s.views id w) x k.class.0) (r.h x).row
     checked_after w wider x l = each_map (λ k. Called s.views x k.class.0) (λ k. Called (set s.views id w) x k.class.0) (r.h x).row (λ k. called w wider x k.class.0) (r.checked x l)
 
-    over_after : (w : View) → Wider w → (x : ℕ) → x < p.sites → Over (set s.views id w) (r.h x) x
+    pub over_after : (w : View) → Wider w → (x : ℕ) → x < p.sites → Over (set s.views id w) (r.h x) x
     over_after w wider x l m = let o = r.over x l m in (o.0, called w wider x o.0 o.1, o.2)
 
-    shown_after : (w : View) → Wider w → (x : ℕ) → x < p.sites → Shown (set s.views id w) (r.h x) x
+    pub shown_after : (w : View) → Wider w → (x : ℕ) → x < p.sites → Shown (set s.views id w) (r.h x) x
     shown_after w wider x l ahead =
         let e : Seen = Data x (r.h x).top ((r.h x).at (r.h x).top) in in_set (λ v. Has e v.seen) s.views id me.0 w at (wider.seen e) (r.shown x l ahead)
 
