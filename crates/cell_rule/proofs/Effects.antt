@@ -72,17 +72,17 @@ module _ (p : About) where
   -- ---- what the words of a site can hold
 
   module _ (s : State (Unit {0}) View) (r : Ruled p s) (x : ℕ) (l : x < p.sites) where
-    stamp_small : (k : ℕ) → k ≤ (r.h x).top + 1 → k < 65536
+    pub stamp_small : (k : ℕ) → k ≤ (r.h x).top + 1 → k < 65536
     stamp_small k le = let few = (r.good x l).few in let classes = r.sound.few_classes in omega arith
 
-    info_fits : (k : ℕ) → k ≤ (r.h x).top → DataFits k ((r.h x).at k)
+    pub info_fits : (k : ℕ) → k ≤ (r.h x).top → DataFits k ((r.h x).at k)
     info_fits k le = data_fits p r.sound x k ((r.h x).at k) (stamp_small k (omega arith)) ((r.good x l).infos k le)
 
-    head_fits : (k : ℕ) → k ≤ (r.h x).top → TargetFits k (entry_of ((r.h x).at k))
+    pub head_fits : (k : ℕ) → k ≤ (r.h x).top → TargetFits k (entry_of ((r.h x).at k))
     head_fits k le = entry_fits p r.sound x k ((r.h x).at k) (stamp_small k (omega arith)) ((r.good x l).infos k le)
 
     -- each class that was called is concrete
-    concrete_called : (c : ℕ) → Called s.views x c → IsTrue ((p.at x).concrete c)
+    pub concrete_called : (c : ℕ) → Called s.views x c → IsTrue ((p.at x).concrete c)
     concrete_called c m = (each_has (InRange p) m.1.asked (call x c) m.3 (r.each_view m.0 m.1 m.2).in_range).1
 
   -- a check with a class and its target fits the word

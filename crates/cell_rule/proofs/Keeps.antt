@@ -75,7 +75,7 @@ module _ (p : About) (slots id : ℕ) (me : Sat) where
 
       module _ (d : ℕ) (cached : CachedSeen x me.0) (calls : CallsIt x d me.0) (before : OthersSeen x d i me.0) where
         -- the class was called
-        was_called : (s : State (Unit {0}) View) (r : Ruled p s) → get_elem? s.views id ≡ some me.0 → Called s.views x d
+        pub was_called : (s : State (Unit {0}) View) (r : Ruled p s) → get_elem? s.views id ≡ some me.0 → Called s.views x d
         was_called s r at = ⊎_elim (λ (z : IsCurrent x d me.0). (id, me.0, at, subst (Has (call x d)) (sym z.1) (inl refl)))
             (λ (z : (j : ℕ) × (e : Info) × Has (Data x j e) me.0.seen × (e.state ≡ Mono (class_id d))).
               (let known : Known p r.h (Data x z.0 z.1) = each_has (Known p r.h) me.0.seen (Data x z.0 z.1) z.2 (r.each_view id me.0 at).known in

@@ -9,3 +9,5 @@ pub mod Keeps
 pub mod Views
 pub mod Endings
 pub mod Telling
+pub mod Running
+pub mod Parts

@@ -7,3 +7,5 @@ pub mod Rule
 pub mod Told
 pub mod Stamps
 pub mod Steps
+pub mod Runs
+pub mod Parts

@@ -2,12 +2,14 @@
 #![tactic(auto)]
 
 mod ends;
+mod laws;
 mod plays;
 mod steps;
 mod table;
 mod view;
 mod words;
 
+pub use laws::{rule_has_parts, runs_keep_the_rule, words_differ};
 pub use plays::Call;
 pub use steps::{
     advance_data, claim_check, finish_target, load_check, load_data, load_target, open_call,

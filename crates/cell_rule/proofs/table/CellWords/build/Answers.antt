@@ -12,5 +12,5 @@ use Rattle.cell_rule.proofs.table.CellWords.build.Goals as goal
 pub of_words-requires : goal.of_words-requires
 of_words-requires c =
     let sites : c.len.result ≡ length c.args.linked.now.program.sites = c.len.ensures ∙ ap (λ (p : Numbered). length p.sites) c.program.ensures in
-    subst (λ (z : Linked × List ℕ). Ruled (about_of z.0) (opening z.1 [] newcomer)) (λ j. (sym c.of-about.ensures j, sym (c.as_slice.ensures.value ∙ c.in_ok-words.ensures tt) j))
+    subst (λ (z : Linked × List ℕ). Ruled (about_of z.0) (opening z.1 [] newcomer)) (λ j. (sym c.of-about.ensures j, sym (c.as_slice.ensures.value ∙ c.in_ok-words.ensures) j))
     (starts (about_of c.args.linked.now) (6 * c.len.result + 1) (sound_of c.args.linked.now) (ap (λ (n : ℕ). 6 * n + 1) sites))
