@@ -34,7 +34,6 @@ use Rattle.cell_rule.proofs.Basics.{each_map, each_append, each_has}
 use Rattle.cell_rule.proofs.Packs.{data_inj, entry_inj, check_some}
 use Rattle.cell_rule.proofs.Rows.{inside, all_at, row_is, filled, word_at, word_else, row_same, none_has, move_over, moved_over, moved_small}
 use Rattle.cell_rule.proofs.Growth.{put, put_here, put_else, put_all, data_fits, entry_fits, Grown, grown-refl, view_grows, extended, finished, extended-grown, extended-ok, finished-grown, finished-ok, InSome, in_set, each_set}
-
 use Rattle.cell_rule.proofs.Ruling.{Wider, called, looks, turns, reached_after, checked_after, over_after, shown_after}
 
 rest_explained : (P : Asked → Type 0) (b : Bool) (a : Asked) (l : List Asked) → Each P (settled b (a ∷ l)) → Each P l
@@ -161,7 +160,7 @@ module _ (p : About) where
           let short = few_checks (present t) (length t.row) (r.good x l).lawful.size in
           move_over (p.at x) (present t) moved.row t.row c i'.state (subst (λ (z : Info). Move (p.at x) z.state moved.row c i'.state) is moved.move)
           (λ _ many. row_same moved.row t.row (let z : 4 ≤ length moved.row = grind (arith, nat_tests) in omega arith)
-            (λ q k e. (each_has (Known p r.h) me.0.seen (Set x q k) (moved.checks q k e) ok.known).1))
+          (λ q k e. (each_has (Known p r.h) me.0.seen (Set x q k) (moved.checks q k e) ok.known).1))
 
       -- an advance that wins
       pub advance_done : (k : ℕ) (i i' : Info) (e : Entry) → Has (Head x k e) me.0.seen → Has (Data x k i) me.0.seen → Moved p x c i i' me.0.seen → get_or s.words (data_at x) 0 ≡ data_word k i

@@ -78,9 +78,9 @@ module _ (p : About) (slots id : ℕ) (me : Sat) where
         pub was_called : (s : State (Unit {0}) View) (r : Ruled p s) → get_elem? s.views id ≡ some me.0 → Called s.views x d
         was_called s r at = ⊎_elim (λ (z : IsCurrent x d me.0). (id, me.0, at, subst (Has (call x d)) (sym z.1) (inl refl)))
             (λ (z : (j : ℕ) × (e : Info) × Has (Data x j e) me.0.seen × (e.state ≡ Mono (class_id d))).
-              (let known : Known p r.h (Data x z.0 z.1) = each_has (Known p r.h) me.0.seen (Data x z.0 z.1) z.2 (r.each_view id me.0 at).known in
-              let is : ((r.h x).at z.0).state ≡ Mono (class_id d) = ap (λ (y : Info). y.state) (sym known.2) ∙ z.3 in
-              (subst (λ (y : CallState). Reached (p.at x) z.0 y (Called s.views x)) is (r.reached x l z.0 known.1)).1)) calls
+            (let known : Known p r.h (Data x z.0 z.1) = each_has (Known p r.h) me.0.seen (Data x z.0 z.1) z.2 (r.each_view id me.0 at).known in
+            let is : ((r.h x).at z.0).state ≡ Mono (class_id d) = ap (λ (y : Info). y.state) (sym known.2) ∙ z.3 in
+            (subst (λ (y : CallState). Reached (p.at x) z.0 y (Called s.views x)) is (r.reached x l z.0 known.1)).1)) calls
 
         claim_here : Allows (Ruled p) slots id me (check_at x i) (λ n. either (n == 0) (check_word (check d ((p.at x).resolve d))) n) (Claims i (check_word (check d ((p.at x).resolve d))))
         claim_here s r _ at _ =

@@ -11,3 +11,4 @@ pub mod Endings
 pub mod Telling
 pub mod Running
 pub mod Parts
+mod Examples

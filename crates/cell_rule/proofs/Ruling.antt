@@ -108,4 +108,3 @@ module _ (p : About) where
           each_view = each_set (IsView p h') s.views id w mine (λ j v e. view_grows p r.h h' r.good grows v (r.each_view j v e));
           shares = shares_stay w wider;
         }
-

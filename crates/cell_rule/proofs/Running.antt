@@ -1,5 +1,5 @@
 -- Every run of steps keeps the rule.
-use Rattle.std.proofs.Common.{◌≡◌, ◌≢◌, ◌⊎◌, ℕ, ◌+◌, ◌*◌, ◌<◌, List, [], ◌∷◌, get_or, set, replicate, sym, refl, ap, ◌∙◌, subst, ⊎_elim}
+use Rattle.std.proofs.Common.{◌≡◌, ◌≢◌, ◌⊎◌, ℕ, ◌+◌, ◌*◌, ◌<◌, false, Some, None, List, [], ◌∷◌, get_or, set, replicate, sym, refl, ap, ◌∙◌, subst, ⊎_elim}
 use mathlib.Core.Option.{some}
 use lib.ListN.{get_elem?}
 use Rattle.atomic_table.proofs.Lists.{set_else}
@@ -15,7 +15,7 @@ use Rattle.cell_rule.specs.Words.{data_word, target_word, check_word, entry_of}
 use Rattle.cell_rule.specs.About.{About, Sound}
 use Rattle.cell_rule.specs.Histories.{call}
 use Rattle.cell_rule.specs.Rule.{head_at, data_at, check_at, Ruled}
-use Rattle.cell_rule.specs.Told.{Sat, HeadSeen, DataSeen, CheckSeen, sees, goes_on, begins, installs, newcomer}
+use Rattle.cell_rule.specs.Told.{Sat, HeadIs, DataIs, WonAs, HeadSeen, DataSeen, CheckSeen, sees, goes_on, begins, installs, newcomer}
 use Rattle.cell_rule.specs.Runs.{CellStep, opens, loads_target, loads_data, advances, finishes, finds_check, finds_none, claims, splits, joins, Takes, Steps, Runs}
 use Rattle.cell_rule.proofs.Packs.{check_inj, check_some}
 use Rattle.cell_rule.proofs.Effects.{Done, opens_done, head_done, data_done, advance_done, finish_done, check_done, claim_done}
@@ -47,42 +47,55 @@ module _ (p : About) where
     left i m told w d is e = other_homes (stepped s i m id [] d.0 d.1) t (ap (λ (z : State (Unit {0}) View). z.words) e)
         (ap (λ (z : State (Unit {0}) View). z.views) e ∙ ap (λ (z : View). set s.views id z) (sym (is (d.0, carried_after [] d.1) d.4))) d.3
 
+    -- what each kind of step tells
+    abbrev Heads : ℕ → ℕ → (Seen → View) → Sat → Type 0
+    Heads x n next u = (u.1 ≡ []) × HeadIs p x n next u.0
+
+    abbrev Infos : ℕ → ℕ → ℕ → Sat → Type 0
+    Infos x c n u = (u.1 ≡ []) × DataIs p x c n v u.0
+
+    abbrev Wins : ℕ → ℕ → ℕ → Sat → Type 0
+    Wins x old new u = (u.1 ≡ []) × WonAs p x old new v u.0
+
+    abbrev Checks : ℕ → ℕ → ℕ → Sat → Type 0
+    Checks x q n u = (u.1 ≡ []) × CheckSeen p x q n v u.0
+
     pub takes_keep : (e : CellStep) → Takes p s t id v e → Ruled p t
     takes_keep (opens c x k e) o = let l = o.0.0 in
-        left (head_at x) (get_or s.words (head_at x) 0) _ (begins v (call x c) (Head x k e)) (opens_done p s r id (v, []) at x l some_share c o.1 o.2)
+        left (head_at x) (get_or s.words (head_at x) 0) (Heads x (get_or s.words (head_at x) 0) (begins v (call x c))) (begins v (call x c) (Head x k e)) (opens_done p s r id (v, []) at x l some_share c o.1 o.2)
         (λ u told. (head_told p x (get_or s.words (head_at x) 0) (begins v (call x c)) u.0 told.1 k e o.0.1 o.0.2).after) o.3
     takes_keep (loads_target x k e) o = let l = o.0.0 in
-        left (head_at x) (get_or s.words (head_at x) 0) _ (goes_on v (Head x k e)) (head_done p s r id (v, []) at x l some_share)
+        left (head_at x) (get_or s.words (head_at x) 0) (Heads x (get_or s.words (head_at x) 0) (goes_on v)) (goes_on v (Head x k e)) (head_done p s r id (v, []) at x l some_share)
         (λ u told. (head_told p x (get_or s.words (head_at x) 0) (goes_on v) u.0 told.1 k e o.0.1 o.0.2).after) o.1
     takes_keep (loads_data c x k i) o =
         let l = o.0.0 in let n : ℕ = get_or s.words (data_at x) 0 in let d = data_done p s r id (v, []) at x l some_share c o.1.0 o.1.1 in
         let after : (u : View) → DataSeen p x c k i v u → ((¬ Explains i.state c) × (u ≡ goes_on v (Data x k i))) ⊎ (Explains i.state c × (u ≡ sees v (Data x k i) false)) = λ u z. z.after in
         ⊎_elim
         (λ (q : (¬ Explains i.state c) × (t ≡ stepped s (data_at x) n id [] (goes_on v (Data x k i)) keeps)).
-          left (data_at x) n _ (goes_on v (Data x k i)) d
-          (λ u told. ⊎_elim (λ (z : (¬ Explains i.state c) × (u.0 ≡ goes_on v (Data x k i))). z.1) (λ (z : Explains i.state c × (u.0 ≡ sees v (Data x k i) false)). absurd (q.0 z.0)) (after u.0 (data_told p x c n v u.0 told.1 k i o.0.1 o.0.2))) q.1)
+        left (data_at x) n (Infos x c n) (goes_on v (Data x k i)) d
+        (λ u told. ⊎_elim (λ (z : (¬ Explains i.state c) × (u.0 ≡ goes_on v (Data x k i))). z.1) (λ (z : Explains i.state c × (u.0 ≡ sees v (Data x k i) false)). absurd (q.0 z.0)) (after u.0 (data_told p x c n v u.0 told.1 k i o.0.1 o.0.2))) q.1)
         (λ (q : Explains i.state c × (t ≡ stepped s (data_at x) n id [] (sees v (Data x k i) false) keeps)).
-          left (data_at x) n _ (sees v (Data x k i) false) d
-          (λ u told. ⊎_elim (λ (z : (¬ Explains i.state c) × (u.0 ≡ goes_on v (Data x k i))). absurd (z.0 q.0)) (λ (z : Explains i.state c × (u.0 ≡ sees v (Data x k i) false)). z.1) (after u.0 (data_told p x c n v u.0 told.1 k i o.0.1 o.0.2))) q.1)
+        left (data_at x) n (Infos x c n) (sees v (Data x k i) false) d
+        (λ u told. ⊎_elim (λ (z : (¬ Explains i.state c) × (u.0 ≡ goes_on v (Data x k i))). absurd (z.0 q.0)) (λ (z : Explains i.state c × (u.0 ≡ sees v (Data x k i) false)). z.1) (after u.0 (data_told p x c n v u.0 told.1 k i o.0.1 o.0.2))) q.1)
         o.2
     takes_keep (advances c x k e i j) o =
         let l = o.0.0 in let m = o.1 in let d = advance_done p s r id (v, []) at x l some_share c m.0.0 m.0.1 k i j e m.1 m.2 m.3 o.0.2 in
-        left (data_at x) (data_word (k + 1) j) _ (installs v x (k + 1) i j) d
+        left (data_at x) (data_word (k + 1) j) (Wins x (data_word k i) (data_word (k + 1) j)) (installs v x (k + 1) i j) d
         (λ u told. let z = told.1 in (won_told p x (data_word k i) (data_word (k + 1) j) v u.0 z k i j o.0.1 m.4 refl refl).after) o.2
     takes_keep (finishes x k e i) o =
         let l = o.0.0 in let m : ℕ = target_word (k + 1) (entry_of i) in let d = finish_done p s r id (v, []) at x l some_share k e i o.1.0 o.1.1 o.0.2 in
-        left (head_at x) m _ (goes_on v (Head x (k + 1) (entry_of i))) d
+        left (head_at x) m (Heads x m (goes_on v)) (goes_on v (Head x (k + 1) (entry_of i))) d
         (λ u told. (head_told p x m (goes_on v) u.0 told.1 (k + 1) (entry_of i) o.1.2 refl).after) o.2
     takes_keep (finds_check x q k) o =
-        left (check_at x q) (get_or s.words (check_at x q) 0) _ (goes_on v (Set x q k)) (check_done p s r id (v, []) at x o.0 some_share q o.1)
+        left (check_at x q) (get_or s.words (check_at x q) 0) (Checks x q (get_or s.words (check_at x q) 0)) (goes_on v (Set x q k)) (check_done p s r id (v, []) at x o.0 some_share q o.1)
         (λ u told. (check_told p x q (get_or s.words (check_at x q) 0) v u.0 told.1 (Some k) (o.2, o.3)).1) o.4
     takes_keep (finds_none x q) o =
-        left (check_at x q) (get_or s.words (check_at x q) 0) _ (goes_on v (Empty x q)) (check_done p s r id (v, []) at x o.0 some_share q o.1)
+        left (check_at x q) (get_or s.words (check_at x q) 0) (Checks x q (get_or s.words (check_at x q) 0)) (goes_on v (Empty x q)) (check_done p s r id (v, []) at x o.0 some_share q o.1)
         (λ u told. (check_told p x q (get_or s.words (check_at x q) 0) v u.0 told.1 None (λ z. check_some z.0 (sym z.2 ∙ o.2))).1) o.3
     takes_keep (claims x q k) o =
         let m = o.1 in let n : ℕ = check_word (check k.class.0 ((p.at x).resolve k.class.0)) in
         let same : check_word k ≡ n = ap (λ z. check_word (check k.class.0 z)) m.2 in
-        left (check_at x q) n _ (goes_on v (Set x q k))
+        left (check_at x q) n (Checks x q n) (goes_on v (Set x q k))
         (claim_done p s r id (v, []) at x o.0 some_share q k.class.0 m.3.0 m.3.1 m.0 (was_called p 0 id (v, []) x k.class.0 o.0 some_share q m.0 k.class.0 m.3 m.4 m.5 s r at) m.3.2 m.3.3 m.5 o.2)
         (λ u told. (check_told p x q n v u.0 told.1 (Some k) (m.1, sym same)).1)
         (o.3 ∙ ap (λ (z : ℕ). stepped s (check_at x q) z id [] (goes_on v (Set x q k)) keeps) same)

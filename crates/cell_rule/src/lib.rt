@@ -6,6 +6,8 @@ mod laws;
 mod plays;
 mod steps;
 mod table;
+#[cfg(test)]
+mod tests;
 mod view;
 mod words;
 

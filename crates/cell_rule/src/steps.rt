@@ -7,7 +7,9 @@ ghost use Rattle.cell_rule.specs.Lists.{Has};
 ghost use Rattle.cell_rule.specs.declared.view.Seen.TheVariants.{Head, Data};
 ghost use Rattle.std.specs.Prelude.{◌≡◌, ℕ, ◌+◌, ◌*◌, ◌<◌, ◌≤◌, false, MatchOption, Some, IsTrue};
 
-use crate::plays::{AdvanceData, Call, ClaimCheck, FinishTarget, LoadCheck, LoadData, LoadTarget, Open};
+use crate::plays::{
+    AdvanceData, Call, ClaimCheck, FinishTarget, LoadCheck, LoadData, LoadTarget, Open,
+};
 use crate::table::CellWords;
 use crate::view::View;
 use crate::words::{
@@ -212,7 +214,10 @@ pub fn claim_check<N: Call, L: Ledger>(
     steps.tick();
     let new = pack_check(check);
     let at = 6 * site.0 as usize + 3 + place as usize;
-    let found = words.table.shared.compare_exchange::<ClaimCheck<N>>(seat, at, 0, new);
+    let found = words
+        .table
+        .shared
+        .compare_exchange::<ClaimCheck<N>>(seat, at, 0, new);
     match unpack_check(found) {
         None => check,
         Some(other) => other,

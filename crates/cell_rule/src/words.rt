@@ -133,7 +133,8 @@ fn fits_data(state: CallState, t: Target) -> bool
     ensures { IsTrue result ↔ StateFits state t }
 {
     match state {
-        CallState::Unlinked | CallState::Cached | CallState::Mega => t == Target::Method(MethodId(0)),
+        CallState::Unlinked | CallState::Cached | CallState::Mega => t
+            == Target::Method(MethodId(0)),
         CallState::Mono(a) => a.0 < 4096,
         CallState::Single(low, high, own) => low.0 < 4096 && high.0 < 4096 && t == own,
     }
@@ -199,11 +200,26 @@ pub fn entry_for(state: CallState, t: Target) -> Entry
 {
     let none = Target::Method(MethodId(0));
     match state {
-        CallState::Unlinked => Entry { stub: Stub::Miss, target: none },
-        CallState::Mono(_) => Entry { stub: Stub::CheckedEntry, target: t },
-        CallState::Single(_, _, _) => Entry { stub: Stub::Single, target: none },
-        CallState::Cached => Entry { stub: Stub::Cached, target: none },
-        CallState::Mega => Entry { stub: Stub::Mega, target: none },
+        CallState::Unlinked => Entry {
+            stub: Stub::Miss,
+            target: none,
+        },
+        CallState::Mono(_) => Entry {
+            stub: Stub::CheckedEntry,
+            target: t,
+        },
+        CallState::Single(_, _, _) => Entry {
+            stub: Stub::Single,
+            target: none,
+        },
+        CallState::Cached => Entry {
+            stub: Stub::Cached,
+            target: none,
+        },
+        CallState::Mega => Entry {
+            stub: Stub::Mega,
+            target: none,
+        },
     }
 }
 
