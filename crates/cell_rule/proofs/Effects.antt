@@ -1,39 +1,35 @@
 -- Each kind of step keeps the rule, and tells what it tells.
-use Rattle.std.proofs.Common.{◌≡◌, ◌≢◌, ◌⊎◌, ℕ, zero, suc, ◌+◌, ◌-◌, ◌*◌, ◌<◌, ◌≤◌, ◌==◌, Bool, true, false, nat_lt, IsTrue, List, [], ◌∷◌, ◌++◌, length, set, get_or, sum_by, sym, refl, ap, ◌∙◌, subst, ⊎_elim, inl, inr, arith, length-set, length-append, get_or-set_same, get_or-set_other}
+use Rattle.std.proofs.Common.{◌≡◌, ◌≢◌, ◌⊎◌, ℕ, ◌+◌, ◌<◌, ◌≤◌, Bool, true, false, IsTrue, List, [], ◌∷◌, ◌++◌, length, set, get_or, sym, refl, ap, ◌∙◌, subst, ⊎_elim, inl, inr, arith, get_or-set_same, get_or-set_other}
 use Rattle.std.proofs.lemmas.Bool.Decides.{nat_tests}
 use mathlib.Core.Logic.{dite}
-use mathlib.Core.Option.{none, some, some-injective}
+use mathlib.Core.Option.{some, some-injective}
 use native.Mathlib.Decide.{ℕ_discrete, dec_le}
-use prog.Atomic.{either}
 use lib.ListN.{get_elem?}
-use lib.Seq.{set-get_or}
-use Rattle.atomic_table.proofs.Lists.{exchanged, at_snoc, at_last, at_longer}
-use Rattle.atomic_table.specs.Table.{State, step, keeps, stepped, Allows, Act, Valid, carried_after}
-use Rattle.view_sums.proofs.Sums.{sum-set, here-set}
-use Rattle.program.specs.declared.numbered.Target.{Target}
+use Rattle.atomic_table.proofs.Lists.{at_last, at_longer}
+use Rattle.atomic_table.specs.Table.{State, keeps, stepped, Act, Valid, carried_after}
+use Rattle.view_sums.proofs.Sums.{here-set}
 use Rattle.miss_handler.specs.declared.row.Check.{Check}
 use Rattle.miss_handler.specs.declared.state.CallState.{CallState}
 use Rattle.miss_handler.specs.declared.state.CallState.TheVariants.{Unlinked, Mono, Single, Cached, Mega}
-use Rattle.miss_handler.specs.States.{check, class_id, has, IsRight, Explains, Later, IsCachedOrMega, Lawful, MayHave, Move, Reached}
+use Rattle.miss_handler.specs.States.{check, has, IsRight, Explains, Later, IsCachedOrMega, Lawful, MayHave, Move, Reached}
 use Rattle.miss_handler.proofs.Orders.{cached_later, later-refl}
 use Rattle.miss_handler.proofs.Moves.{move_explains, move_reached, reached_more, reached_few, move_lawful_state, lawful_added}
 use Rattle.cell_rule.specs.declared.words.Info.{Info}
 use Rattle.cell_rule.specs.declared.words.Entry.{Entry}
-use Rattle.cell_rule.specs.declared.view.Seen.{Seen}
 use Rattle.cell_rule.specs.declared.view.Seen.TheVariants.{Head, Data, Set, Empty}
 use Rattle.cell_rule.specs.declared.view.Asked.{Asked}
 use Rattle.cell_rule.specs.declared.view.View.{View}
 use Rattle.cell_rule.specs.Lists.{Each, Has}
 use Rattle.cell_rule.specs.Words.{IsSmall, data_word, target_word, check_word, entry_of, DataFits, TargetFits, CheckFits}
 use Rattle.cell_rule.specs.About.{About, Sound, LawfulInfo}
-use Rattle.cell_rule.specs.Histories.{History, Histories, IsHistory, present, Good, Known, Explained, InRange, settled, call, Called, RowSeen, Moved}
-use Rattle.cell_rule.specs.Rule.{head_at, data_at, check_at, row_word, share, Worded, IsView, Shown, Over, Ruled}
-use Rattle.cell_rule.specs.Told.{Sat, sees, begins, goes_on, installs, HeadIs, DataIs, WonAs, CheckSeen, opened, saw_head, saw_data, advanced, finished_with, saw_check, claimed, looked}
-use Rattle.cell_rule.specs.Steps.{IsCurrent, OthersSeen, CallsIt, CachedSeen}
-use Rattle.cell_rule.proofs.Basics.{each_map, each_append, each_has}
+use Rattle.cell_rule.specs.Histories.{History, Histories, IsHistory, present, Good, Known, Explained, InRange, settled, call, Called, Moved}
+use Rattle.cell_rule.specs.Rule.{head_at, data_at, check_at, row_word, Ruled}
+use Rattle.cell_rule.specs.Told.{Sat, sees, begins, goes_on, installs, HeadIs, DataIs, WonAs, CheckSeen}
+use Rattle.cell_rule.specs.Steps.{OthersSeen}
+use Rattle.cell_rule.proofs.Basics.{each_append, each_has}
 use Rattle.cell_rule.proofs.Packs.{data_inj, entry_inj, check_some}
 use Rattle.cell_rule.proofs.Rows.{inside, all_at, row_is, filled, word_at, word_else, row_same, none_has, move_over, moved_over, moved_small}
-use Rattle.cell_rule.proofs.Growth.{put, put_here, put_else, put_all, data_fits, entry_fits, Grown, grown-refl, view_grows, extended, finished, extended-grown, extended-ok, finished-grown, finished-ok, InSome, in_set, each_set}
+use Rattle.cell_rule.proofs.Growth.{put, put_here, put_else, put_all, data_fits, entry_fits, Grown, grown-refl, view_grows, extended, finished, extended-grown, extended-ok, finished-grown, finished-ok}
 use Rattle.cell_rule.proofs.Ruling.{Wider, called, looks, turns, reached_after, checked_after, over_after, shown_after}
 
 rest_explained : (P : Asked → Type 0) (b : Bool) (a : Asked) (l : List Asked) → Each P (settled b (a ∷ l)) → Each P l

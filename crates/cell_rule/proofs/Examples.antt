@@ -2,7 +2,7 @@
 use Rattle.std.proofs.Common.{◌≡◌, refl}
 use Rattle.program.specs.declared.numbered.Target.{Target}
 use Rattle.program.specs.declared.numbered.Target.TheVariants.{Method, Nsm}
-use Rattle.miss_handler.specs.declared.state.CallState.TheVariants.{Unlinked, Mono, Single, Mega}
+use Rattle.miss_handler.specs.declared.state.CallState.TheVariants.{Unlinked, Mono, Single}
 use Rattle.miss_handler.specs.States.{check, class_id}
 use Rattle.cell_rule.specs.declared.words.Stub.TheVariants as stub
 use Rattle.cell_rule.specs.Words.{info, entry, no_target, data_word, target_word, check_word, entry_of}

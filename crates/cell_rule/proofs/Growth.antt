@@ -1,5 +1,5 @@
 -- What was seen stays true while histories grow, and what stands in some view still stands there.
-use Rattle.std.proofs.Common.{◌≡◌, ◌≢◌, ℕ, zero, suc, ◌+◌, ◌<◌, ◌≤◌, IsTrue, List, [], ◌∷◌, ◌++◌, length, set, sym, refl, ap, ◌∙◌, subst, ⊎_elim, arith}
+use Rattle.std.proofs.Common.{◌≡◌, ◌≢◌, ℕ, ◌+◌, ◌<◌, ◌≤◌, List, [], ◌∷◌, ◌++◌, set, sym, refl, ap, ◌∙◌, subst, ⊎_elim, arith}
 use mathlib.Core.Option.{some, some-injective}
 use native.Mathlib.Decide.{ℕ_discrete}
 use lib.ListN.{get_elem?}
@@ -17,10 +17,9 @@ use Rattle.cell_rule.specs.declared.view.Seen.{Seen}
 use Rattle.cell_rule.specs.declared.view.Seen.TheVariants.{Head, Data, Set, Empty}
 use Rattle.cell_rule.specs.declared.view.Asked.{Asked}
 use Rattle.cell_rule.specs.declared.view.View.{View}
-use Rattle.cell_rule.specs.Lists.{Has}
 use Rattle.cell_rule.specs.Words.{IsSmall, no_target, StateFits, DataFits, TargetFits, entry_of, entry_at}
 use Rattle.cell_rule.specs.About.{About, Sound, state_target, LawfulInfo}
-use Rattle.cell_rule.specs.Histories.{History, Histories, IsHistory, present, Good, Known, Explained, settled, Called}
+use Rattle.cell_rule.specs.Histories.{History, Histories, IsHistory, present, Good, Known, Explained, settled}
 use Rattle.cell_rule.specs.Rule.{IsView}
 use Rattle.cell_rule.proofs.Basics.{each_map}
 use Rattle.cell_rule.proofs.Rows.{moved_lawful}

@@ -13,7 +13,7 @@ use Rattle.cell_rule.specs.declared.words.Stub.TheVariants as stub
 use Rattle.cell_rule.specs.declared.words.Info.{Info}
 use Rattle.cell_rule.specs.declared.words.Entry.{Entry}
 use Rattle.cell_rule.specs.Words.{info, entry, IsSmall, target_field, kind_of, low_of, high_of, stub_number, data_word, target_word, check_word, StateFits, DataFits, TargetFits, CheckFits}
-use Rattle.cell_rule.specs.Unpacked.{class, target_at, target_from, state_from, stub_from}
+use Rattle.cell_rule.specs.Unpacked.{target_at, target_from, state_from, stub_from}
 
 digit : (w a b a' b' : ℕ) → b < w → b' < w → a * w + b ≡ a' * w + b' → (a ≡ a') × (b ≡ b')
 digit w a b a' b' h h' e = (sym (div-mul-add a w b h) ∙ (ap (λ (n : ℕ). n / w) e ∙ div-mul-add a' w b' h'), sym (mod-mul-add a w b h) ∙ (ap (λ (n : ℕ). n % w) e ∙ mod-mul-add a' w b' h'))

@@ -1,23 +1,21 @@
 -- The parts of the rule, one by one.
-use Rattle.std.proofs.Common.{◌≡◌, ◌≢◌, ℕ, zero, suc, ◌+◌, ◌<◌, ◌≤◌, false, IsTrue, List, [], ◌∷◌, length, sym, refl, ap, ◌∙◌, subst, ⊎_elim, arith}
-use mathlib.Core.Option.{some, some-ne-none}
-use native.Mathlib.Decide.{dec_le}
+use Rattle.std.proofs.Common.{◌≡◌, ℕ, zero, suc, ◌<◌, ◌≤◌, List, [], ◌∷◌, length, sym, refl, ap, ◌∙◌, subst, arith}
+use mathlib.Core.Option.{some}
 use lib.ListN.{get_elem?}
 use Rattle.atomic_table.specs.Table.{State}
 use Rattle.miss_handler.specs.declared.row.Check.{Check}
 use Rattle.miss_handler.specs.declared.state.CallState.{CallState}
 use Rattle.miss_handler.specs.declared.state.CallState.TheVariants.{Mono}
-use Rattle.miss_handler.specs.States.{class_id, Explains, Later, Reached}
+use Rattle.miss_handler.specs.States.{class_id, Later, Reached}
 use Rattle.cell_rule.specs.declared.words.Info.{Info}
-use Rattle.cell_rule.specs.declared.words.Entry.{Entry}
 use Rattle.cell_rule.specs.declared.view.Seen.{Seen}
 use Rattle.cell_rule.specs.declared.view.Seen.TheVariants.{Head, Data, Set}
 use Rattle.cell_rule.specs.declared.view.View.{View}
 use Rattle.cell_rule.specs.Lists.{Has}
-use Rattle.cell_rule.specs.Words.{entry_of, check_word}
+use Rattle.cell_rule.specs.Words.{entry_of}
 use Rattle.cell_rule.specs.About.{About}
-use Rattle.cell_rule.specs.Histories.{Histories, Known, Explained, settled, call, Called}
-use Rattle.cell_rule.specs.Rule.{check_at, row_word, Ruled}
+use Rattle.cell_rule.specs.Histories.{Known, Explained, settled, call, Called}
+use Rattle.cell_rule.specs.Rule.{row_word, Ruled}
 use Rattle.cell_rule.specs.Parts.{Site, StartsWithZero, Packed, IsLawful, IsReached, IsFilled, IsSeen, IsExplained, Agrees, IsShown, IsShared, Listed}
 use Rattle.cell_rule.proofs.Basics.{each_has}
 use Rattle.cell_rule.proofs.Rows.{word_at}

@@ -1,5 +1,5 @@
 -- The numbers of each program fit the words.
-use Rattle.std.proofs.Common.{◌≡◌, ℕ, zero, suc, ◌+◌, ◌<◌, ◌≤◌, Bool, true, false, List, [], ◌∷◌, length, IsTrue, slice_get, Option, None, Some, option_and_then, unwrap_or, if◌then◌else◌, refl, arith}
+use Rattle.std.proofs.Common.{◌≡◌, ℕ, zero, suc, ◌<◌, ◌≤◌, true, false, List, [], ◌∷◌, length, IsTrue, slice_get, Option, None, Some, option_and_then, if◌then◌else◌, refl, arith}
 use Rattle.std.proofs.lemmas.Option.{slice_get_within}
 use Rattle.program.specs.declared.numbered.Class.{Class}
 use Rattle.program.specs.declared.numbered.Method.{Method}
@@ -11,7 +11,7 @@ use Rattle.program.proofs.Facts.{few_classes, few_methods, few_sites}
 use Rattle.method_lookup.specs.declared.linked.Linked.{Linked}
 use Rattle.miss_handler.specs.Sites.{receivers, selector_of}
 use Rattle.cell_rule.specs.Words.{IsSmall}
-use Rattle.cell_rule.specs.About.{About, about_of, Sound}
+use Rattle.cell_rule.specs.About.{about_of, Sound}
 
 concrete_there : (cs : List Class) (c : ℕ) → IsTrue (is_concrete cs c) → c < length cs
 concrete_there [] c h = absurd cc

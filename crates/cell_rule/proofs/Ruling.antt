@@ -1,39 +1,24 @@
 -- Each step keeps the rule.
-use Rattle.std.proofs.Common.{◌≡◌, ◌≢◌, ◌⊎◌, ℕ, zero, suc, ◌+◌, ◌-◌, ◌*◌, ◌<◌, ◌≤◌, ◌==◌, Bool, true, false, nat_lt, IsTrue, List, [], ◌∷◌, ◌++◌, length, set, get_or, sum_by, sym, refl, ap, ◌∙◌, subst, ⊎_elim, inl, inr, arith, length-set, length-append, get_or-set_same, get_or-set_other}
-use Rattle.std.proofs.lemmas.Bool.Decides.{nat_tests}
-use mathlib.Core.Logic.{dite}
-use mathlib.Core.Option.{none, some, some-injective}
-use native.Mathlib.Decide.{ℕ_discrete, dec_le}
-use prog.Atomic.{either}
+use Rattle.std.proofs.Common.{◌≡◌, ◌≢◌, ℕ, ◌<◌, ◌≤◌, List, set, get_or, sum_by, sym, ◌∙◌, subst, arith, length-set, get_or-set_other}
+use mathlib.Core.Option.{some}
 use lib.ListN.{get_elem?}
 use lib.Seq.{set-get_or}
-use Rattle.atomic_table.proofs.Lists.{exchanged, at_snoc, at_last, at_longer}
-use Rattle.atomic_table.specs.Table.{State, step, keeps, stepped, Allows, Act, Valid, carried_after}
-use Rattle.view_sums.proofs.Sums.{sum-set, here-set}
-use Rattle.program.specs.declared.numbered.Target.{Target}
-use Rattle.miss_handler.specs.declared.row.Check.{Check}
-use Rattle.miss_handler.specs.declared.state.CallState.{CallState}
-use Rattle.miss_handler.specs.declared.state.CallState.TheVariants.{Unlinked, Mono, Single, Cached, Mega}
-use Rattle.miss_handler.specs.States.{check, class_id, has, Explains, Later, IsCachedOrMega, Lawful, MayHave, Move, Reached}
-use Rattle.miss_handler.proofs.Orders.{cached_later, later-refl}
-use Rattle.miss_handler.proofs.Moves.{move_explains, move_reached, reached_more, reached_few, move_lawful_state, lawful_added}
-use Rattle.cell_rule.specs.declared.words.Info.{Info}
-use Rattle.cell_rule.specs.declared.words.Entry.{Entry}
+use Rattle.atomic_table.specs.Table.{State, keeps, stepped}
+use Rattle.view_sums.proofs.Sums.{sum-set}
+use Rattle.miss_handler.specs.States.{Reached}
+use Rattle.miss_handler.proofs.Moves.{reached_more}
 use Rattle.cell_rule.specs.declared.view.Seen.{Seen}
-use Rattle.cell_rule.specs.declared.view.Seen.TheVariants.{Head, Data, Set, Empty}
+use Rattle.cell_rule.specs.declared.view.Seen.TheVariants.{Data}
 use Rattle.cell_rule.specs.declared.view.Asked.{Asked}
 use Rattle.cell_rule.specs.declared.view.View.{View}
 use Rattle.cell_rule.specs.Lists.{Each, Has}
-use Rattle.cell_rule.specs.Words.{IsSmall, data_word, target_word, check_word, entry_of, DataFits, TargetFits, CheckFits}
-use Rattle.cell_rule.specs.About.{About, Sound, LawfulInfo}
-use Rattle.cell_rule.specs.Histories.{History, Histories, IsHistory, present, Good, Known, Explained, InRange, settled, call, Called, RowSeen, Moved}
-use Rattle.cell_rule.specs.Rule.{head_at, data_at, check_at, row_word, share, Worded, IsView, Shown, Over, Ruled}
-use Rattle.cell_rule.specs.Told.{Sat, sees, begins, goes_on, installs, HeadIs, DataIs, WonAs, CheckSeen, opened, saw_head, saw_data, advanced, finished_with, saw_check, claimed, looked}
-use Rattle.cell_rule.specs.Steps.{IsCurrent, OthersSeen, CallsIt, CachedSeen}
-use Rattle.cell_rule.proofs.Basics.{each_map, each_append, each_has}
-use Rattle.cell_rule.proofs.Packs.{data_inj, entry_inj, check_some}
-use Rattle.cell_rule.proofs.Rows.{inside, row_is, filled, word_at, word_else, row_same, none_has, move_over, moved_over, moved_small}
-use Rattle.cell_rule.proofs.Growth.{put, put_here, put_else, put_all, data_fits, entry_fits, Grown, grown-refl, view_grows, extended, finished, extended-grown, extended-ok, finished-grown, finished-ok, InSome, in_set, each_set}
+use Rattle.cell_rule.specs.About.{About}
+use Rattle.cell_rule.specs.Histories.{History, Histories, IsHistory, call, Called}
+use Rattle.cell_rule.specs.Rule.{head_at, data_at, check_at, share, Worded, IsView, Shown, Over, Ruled}
+use Rattle.cell_rule.specs.Told.{Sat}
+use Rattle.cell_rule.proofs.Basics.{each_map}
+use Rattle.cell_rule.proofs.Rows.{inside}
+use Rattle.cell_rule.proofs.Growth.{put, put_all, Grown, grown-refl, view_grows, in_set, each_set}
 
 module _ (p : About) where
   abbrev St : Type 0

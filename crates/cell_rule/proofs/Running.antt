@@ -1,13 +1,10 @@
 -- Every run of steps keeps the rule.
-use Rattle.std.proofs.Common.{◌≡◌, ◌≢◌, ◌⊎◌, ℕ, ◌+◌, ◌*◌, ◌<◌, false, Some, None, List, [], ◌∷◌, get_or, set, replicate, sym, refl, ap, ◌∙◌, subst, ⊎_elim}
+use Rattle.std.proofs.Common.{◌≡◌, ◌⊎◌, ℕ, ◌+◌, ◌*◌, ◌<◌, false, Some, None, List, [], ◌∷◌, get_or, set, replicate, sym, refl, ap, ◌∙◌, subst, ⊎_elim}
 use mathlib.Core.Option.{some}
 use lib.ListN.{get_elem?}
 use Rattle.atomic_table.proofs.Lists.{set_else}
 use Rattle.atomic_table.specs.Table.{State, stepped, keeps, opening, carried_after}
-use Rattle.miss_handler.specs.declared.row.Check.{Check}
 use Rattle.miss_handler.specs.States.{check, Explains}
-use Rattle.cell_rule.specs.declared.words.Info.{Info}
-use Rattle.cell_rule.specs.declared.words.Entry.{Entry}
 use Rattle.cell_rule.specs.declared.view.Seen.{Seen}
 use Rattle.cell_rule.specs.declared.view.Seen.TheVariants.{Head, Data, Set, Empty}
 use Rattle.cell_rule.specs.declared.view.View.{View}
@@ -15,9 +12,9 @@ use Rattle.cell_rule.specs.Words.{data_word, target_word, check_word, entry_of}
 use Rattle.cell_rule.specs.About.{About, Sound}
 use Rattle.cell_rule.specs.Histories.{call}
 use Rattle.cell_rule.specs.Rule.{head_at, data_at, check_at, Ruled}
-use Rattle.cell_rule.specs.Told.{Sat, HeadIs, DataIs, WonAs, HeadSeen, DataSeen, CheckSeen, sees, goes_on, begins, installs, newcomer}
+use Rattle.cell_rule.specs.Told.{Sat, HeadIs, DataIs, WonAs, DataSeen, CheckSeen, sees, goes_on, begins, installs, newcomer}
 use Rattle.cell_rule.specs.Runs.{CellStep, opens, loads_target, loads_data, advances, finishes, finds_check, finds_none, claims, splits, joins, Takes, Steps, Runs}
-use Rattle.cell_rule.proofs.Packs.{check_inj, check_some}
+use Rattle.cell_rule.proofs.Packs.{check_some}
 use Rattle.cell_rule.proofs.Effects.{Done, opens_done, head_done, data_done, advance_done, finish_done, check_done, claim_done}
 use Rattle.cell_rule.proofs.Keeps.{was_called}
 use Rattle.cell_rule.proofs.Views.{splits_keep, joins_keep, starts}

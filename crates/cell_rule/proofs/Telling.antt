@@ -1,5 +1,5 @@
 -- From what a step tells of the number found to what it tells of its parts.
-use Rattle.std.proofs.Common.{◌≡◌, ◌⊎◌, ℕ, ◌+◌, ◌<◌, false, Option, Some, None, MatchOption, ◌∷◌, sym, refl, ap, ◌∙◌, subst, ⊎_elim, inl, inr, arith}
+use Rattle.std.proofs.Common.{◌≡◌, ℕ, ◌+◌, ◌<◌, false, Option, Some, None, MatchOption, ◌∷◌, sym, refl, ap, ◌∙◌, subst, ⊎_elim, inl, inr, arith}
 use native.Mathlib.Decide.{ℕ_discrete}
 use mathlib.Core.Logic.{dite}
 use Rattle.miss_handler.specs.declared.row.Check.{Check}

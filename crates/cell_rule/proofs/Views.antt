@@ -1,5 +1,5 @@
 -- Seats that are cut in two and put together, and the first one, keep the rule.
-use Rattle.std.proofs.Common.{◌≡◌, ◌≢◌, ℕ, zero, suc, ◌+◌, ◌*◌, ◌<◌, ◌≤◌, false, List, [], ◌∷◌, ◌++◌, set, get_or, sum_by, sym, refl, ap, ◌∙◌, subst, arith, replicate, length}
+use Rattle.std.proofs.Common.{◌≡◌, ℕ, zero, suc, ◌+◌, ◌*◌, ◌<◌, ◌≤◌, false, List, [], ◌∷◌, ◌++◌, set, get_or, sum_by, sym, refl, ap, ◌∙◌, subst, arith, replicate}
 use Rattle.std.proofs.lemmas.List.Sums.{sum_by_push}
 use Rattle.std.proofs.lemmas.List.Elements.{All-nil}
 use mathlib.Core.Logic.{dite}
@@ -9,19 +9,16 @@ use lib.ListN.{get_elem?, length-replicate}
 use Rattle.atomic_table.proofs.Lists.{set_else}
 use Rattle.atomic_table.specs.Table.{State, Splits, Joins, opening}
 use Rattle.view_sums.proofs.Sums.{sum-set, here-set}
-use Rattle.miss_handler.specs.declared.state.CallState.{CallState}
-use Rattle.miss_handler.specs.declared.state.CallState.TheVariants.{Unlinked, Mega}
-use Rattle.miss_handler.specs.States.{IsRight, IsCachedOrMega, Reached}
+use Rattle.miss_handler.specs.declared.state.CallState.TheVariants.{Unlinked}
+use Rattle.miss_handler.specs.States.{IsRight, IsCachedOrMega}
 use Rattle.miss_handler.proofs.Moves.{reached_more}
-use Rattle.cell_rule.specs.declared.words.Info.{Info}
 use Rattle.cell_rule.specs.declared.view.Seen.{Seen}
 use Rattle.cell_rule.specs.declared.view.Seen.TheVariants.{Data}
-use Rattle.cell_rule.specs.declared.view.Asked.{Asked}
 use Rattle.cell_rule.specs.declared.view.View.{View}
 use Rattle.cell_rule.specs.Lists.{Each, Has}
 use Rattle.cell_rule.specs.Words.{info, no_target, data_word, target_word}
 use Rattle.cell_rule.specs.About.{About, Sound}
-use Rattle.cell_rule.specs.Histories.{History, Histories, present, Known, Explained, InRange, settled, call, Called}
+use Rattle.cell_rule.specs.Histories.{History, Known, Explained, InRange, settled, call, Called}
 use Rattle.cell_rule.specs.Rule.{head_at, data_at, check_at, share, IsView, Ruled}
 use Rattle.cell_rule.specs.Told.{newcomer, kept, given, joined, spent}
 use Rattle.cell_rule.proofs.Basics.{each_map, each_append, has_left, has_right}

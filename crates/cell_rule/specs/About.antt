@@ -3,7 +3,7 @@ use Rattle.std.specs.Prelude.{◌≡◌, ℕ, ◌<◌, ◌≤◌, IsTrue, length
 use Rattle.program.specs.declared.numbered.Target.{Target}
 use Rattle.method_lookup.specs.declared.linked.Linked.{Linked}
 use Rattle.miss_handler.specs.declared.state.CallState.{CallState}
-use Rattle.miss_handler.specs.declared.state.CallState.TheVariants.{Unlinked, Mono, Single, Cached, Mega}
+use Rattle.miss_handler.specs.declared.state.CallState.TheVariants.{Mono, Single}
 use Rattle.miss_handler.specs.States.{Receivers, LawfulState}
 use Rattle.miss_handler.specs.Sites.{receivers_at}
 use Rattle.cell_rule.specs.declared.words.Info.{Info}

@@ -1,17 +1,16 @@
 -- The history of each site, which exists in the rule alone, and what a view knows of it.
-use Rattle.std.specs.Prelude.{◌≡◌, ◌≢◌, ℕ, ◌+◌, ◌<◌, ◌≤◌, Bool, true, false, IsTrue, List, [], ◌∷◌}
+use Rattle.std.specs.Prelude.{◌≡◌, ℕ, ◌+◌, ◌<◌, ◌≤◌, Bool, true, false, IsTrue, List, [], ◌∷◌}
 use mathlib.Core.Option.{some}
 use lib.ListN.{get_elem?}
 use Rattle.miss_handler.specs.declared.row.Check.{Check}
 use Rattle.miss_handler.specs.declared.state.CallState.{CallState}
-use Rattle.miss_handler.specs.declared.state.CallState.TheVariants.{Mono, Cached}
-use Rattle.miss_handler.specs.States.{Receivers, Explains, Lawful, Later, Move}
+use Rattle.miss_handler.specs.States.{Explains, Lawful, Later, Move}
 use Rattle.cell_rule.specs.declared.words.Info.{Info}
 use Rattle.cell_rule.specs.declared.view.Seen.{Seen}
 use Rattle.cell_rule.specs.declared.view.Seen.TheVariants.{Head, Data, Set, Empty}
 use Rattle.cell_rule.specs.declared.view.Asked.{Asked}
 use Rattle.cell_rule.specs.declared.view.View.{View}
-use Rattle.cell_rule.specs.Lists.{Each, Has}
+use Rattle.cell_rule.specs.Lists.{Has}
 use Rattle.cell_rule.specs.Words.{entry_of}
 use Rattle.cell_rule.specs.About.{About, LawfulInfo, state_target}
 

@@ -7,7 +7,6 @@ use Rattle.miss_handler.specs.declared.row.Check.{Check}
 use Rattle.miss_handler.specs.States.{Explains}
 use Rattle.cell_rule.specs.declared.words.Info.{Info}
 use Rattle.cell_rule.specs.declared.words.Entry.{Entry}
-use Rattle.cell_rule.specs.declared.view.Seen.{Seen}
 use Rattle.cell_rule.specs.declared.view.Seen.TheVariants.{Head, Data, Set, Empty}
 use Rattle.cell_rule.specs.declared.view.View.{View}
 use Rattle.cell_rule.specs.Lists.{Has}

@@ -1,7 +1,6 @@
 -- What the steps require, and what they tell by the parts of words.
-use Rattle.std.specs.Prelude.{◌≡◌, ◌≢◌, ◌⊎◌, ℕ, ◌+◌, ◌<◌, ◌≤◌, false, List, [], ◌∷◌, Option, MatchOption}
+use Rattle.std.specs.Prelude.{◌≡◌, ◌≢◌, ◌⊎◌, ℕ, ◌<◌, ◌≤◌, List, [], ◌∷◌, Option, MatchOption}
 use Rattle.atomic_table.specs.declared.shared.Seat.{Seat}
-use Rattle.program.specs.declared.numbered.Target.{Target}
 use Rattle.miss_handler.specs.declared.row.Check.{Check}
 use Rattle.miss_handler.specs.declared.state.CallState.TheVariants.{Mono}
 use Rattle.miss_handler.specs.States.{IsCachedOrMega, Later}
@@ -13,11 +12,10 @@ use Rattle.cell_rule.specs.declared.view.Asked.{Asked}
 use Rattle.cell_rule.specs.declared.view.View.{View}
 use Rattle.cell_rule.specs.declared.table.CellWords.{CellWords}
 use Rattle.cell_rule.specs.Lists.{Each, Has}
-use Rattle.cell_rule.specs.Words.{info}
 use Rattle.cell_rule.specs.About.{About, about_of}
 use Rattle.cell_rule.specs.Histories.{Histories, Good, Known, Explained, Called, present, call}
 use Rattle.cell_rule.specs.Rule.{Worded}
-use Rattle.cell_rule.specs.Told.{Learnt, begins, goes_on, HeadSeen, DataSeen, Won}
+use Rattle.cell_rule.specs.Told.{Learnt, begins, goes_on, HeadSeen, DataSeen}
 use Rattle.miss_handler.specs.States.{Reached}
 
 abbrev pub Place : Type 0
