@@ -136,12 +136,16 @@ advance state first second = record { state = state; add_first = first; add_seco
 abbrev pub range_or : Receivers → ℕ → ℕ → Target → Advance → Advance
 range_or r lo hi t other = if one_target r lo hi t then advance (Single (class_id lo) (class_id hi) t) None None else other
 
+-- Cached while the row has room
+abbrev pub state_by_room : List Check → CallState
+state_by_room row = if nat_lt (length row) 4 then Cached else Mega
+
 -- what a call on a concrete class c that is not covered makes of a site: its state, and the classes to add to its row or, in Mega, to its selector's table
 abbrev pub next : Receivers → CallState → List Check → ℕ → Advance
 next r Unlinked row c = advance (Mono (class_id c)) None None
 next r (Mono a) row c = range_or r (min a.0 c) (max a.0 c) (r.resolve a.0) (advance Cached (Some a) (Some (class_id c)))
 next r (Single lo hi t) row c = range_or r (min lo.0 c) (max hi.0 c) t (advance Cached (Some (class_id c)) None)
-next r Cached row c = advance (if nat_lt (length row) 4 then Cached else Mega) (Some (class_id c)) None
+next r Cached row c = advance (state_by_room row) (Some (class_id c)) None
 next r Mega row c = advance Mega (Some (class_id c)) None
 
 -- the check of a class to be added
@@ -160,6 +164,10 @@ row_with Mega row more = row
 -- the row with the adds made
 abbrev pub row_after : Receivers → List Check → Advance → List Check
 row_after r row a = row_with a.state row (added r a.add_first ++ added r a.add_second)
+
+-- a lawful site is lawful again once the adds are made
+abbrev pub StaysLawful : Receivers → CallState → List Check → Advance → Type 0
+StaysLawful r state row a = Lawful r state row → Lawful r a.state (row_after r row a)
 
 -- class c is covered once the adds are made: in Mega, since it goes into the table
 abbrev pub CoversAfter : Receivers → CallState → List Check → Advance → ℕ → Type 0
