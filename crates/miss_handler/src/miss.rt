@@ -86,21 +86,17 @@ pub fn is_single_range<L: Ledger>(
 fn range_or<L: Ledger>(
     linked: &Linked,
     site: SiteId,
-    range: (ClassId, ClassId),
+    ends: (ClassId, ClassId),
     t: Target,
     other: Advance,
     steps: &mut Steps<L>,
 ) -> Advance
     requires { site.0 < length linked.now.program.sites }
-    ensures range { result ≡ spec.range_or (receivers_at linked.now site.0) range.0.0 range.1.0 t other }
+    ensures range { result ≡ spec.range_or (receivers_at linked.now site.0) ends.0.0 ends.1.0 t other }
     ensures cost { steps.new ≤ steps.old + range_visits linked.now }
 {
-    if is_single_range(linked, site, range.0, range.1, t, steps) {
-        Advance {
-            state: CallState::Single(range.0, range.1, t),
-            add_first: None,
-            add_second: None,
-        }
+    if is_single_range(linked, site, ends.0, ends.1, t, steps) {
+        Advance::to(CallState::Single(ends.0, ends.1, t))
     } else {
         other
     }
@@ -133,40 +129,20 @@ fn advance_of<L: Ledger>(
     ensures free { NeedsNoLookup state → steps.new ≡ steps.old }
 {
     match state {
-        CallState::Unlinked => Advance {
-            state: CallState::Mono(c),
-            add_first: None,
-            add_second: None,
-        },
+        CallState::Unlinked => Advance::to(CallState::Mono(c)),
         CallState::Mono(a) => {
             let t = target_at(linked, site, a, steps);
-            let cached = Advance {
-                state: CallState::Cached,
-                add_first: Some(a),
-                add_second: Some(c),
-            };
-            let range = (ClassId(a.0.min(c.0)), ClassId(a.0.max(c.0)));
-            range_or(linked, site, range, t, cached, steps)
+            let cached = Advance::adding_both(CallState::Cached, a, c);
+            let ends = (ClassId(a.0.min(c.0)), ClassId(a.0.max(c.0)));
+            range_or(linked, site, ends, t, cached, steps)
         }
         CallState::Single(lo, hi, t) => {
-            let cached = Advance {
-                state: CallState::Cached,
-                add_first: Some(c),
-                add_second: None,
-            };
-            let range = (ClassId(lo.0.min(c.0)), ClassId(hi.0.max(c.0)));
-            range_or(linked, site, range, t, cached, steps)
+            let cached = Advance::adding(CallState::Cached, c);
+            let ends = (ClassId(lo.0.min(c.0)), ClassId(hi.0.max(c.0)));
+            range_or(linked, site, ends, t, cached, steps)
         }
-        CallState::Cached => Advance {
-            state: cached_or_mega(row),
-            add_first: Some(c),
-            add_second: None,
-        },
-        CallState::Mega => Advance {
-            state: CallState::Mega,
-            add_first: Some(c),
-            add_second: None,
-        },
+        CallState::Cached => Advance::adding(cached_or_mega(row), c),
+        CallState::Mega => Advance::adding(CallState::Mega, c),
     }
 }
 
@@ -186,7 +162,7 @@ pub fn next<L: Ledger>(
     ensures next { result ≡ spec.next (receivers_at linked.now site.0) state (checks_of row.now) c.0 }
     ensures later { Later state result.state }
     ensures lawful { StaysLawful (receivers_at linked.now site.0) state (checks_of row.now) result }
-    ensures covers { CoversAfter (receivers_at linked.now site.0) result.state (checks_of row.now) result c.0 }
+    ensures covers { CoversAfter (receivers_at linked.now site.0) (checks_of row.now) result c.0 }
     ensures cost { steps.new ≤ steps.old + miss_visits linked.now }
     ensures free { NeedsNoLookup state → steps.new ≡ steps.old }
 {

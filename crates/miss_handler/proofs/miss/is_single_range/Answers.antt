@@ -1,4 +1,4 @@
-use Rattle.std.proofs.Common.{◌≡◌, ℕ, ◌+◌, ◌*◌, ◌-◌, ◌<◌, ◌≤◌, true, length, below_more, sym, ◌∙◌, ap, arith}
+use Rattle.std.proofs.Common.{◌≡◌, ◌+◌, ◌*◌, ◌-◌, ◌≤◌, true, length, below_more, sym, ◌∙◌, arith}
 use Rattle.program.specs.Program.{parts_of}
 use Rattle.miss_handler.specs.States.{Receivers, serves}
 use Rattle.miss_handler.specs.Sites.{receivers_at}

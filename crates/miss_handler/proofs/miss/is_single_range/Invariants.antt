@@ -1,4 +1,4 @@
-use Rattle.std.proofs.Common.{◌≡◌, ◌<◌, ◌≤◌, ◌+◌, ◌-◌, ◌*◌, max, true, length, ℕ}
+use Rattle.std.proofs.Common.{◌≡◌, ◌<◌, ◌≤◌, ◌+◌, ◌-◌, max, true, length, ℕ}
 use Rattle.miss_handler.specs.States.{serves}
 use Rattle.miss_handler.specs.Sites.{receivers_at, visits}
 use Rattle.miss_handler.proofs.miss.is_single_range.Given as goal

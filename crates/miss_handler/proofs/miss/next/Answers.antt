@@ -1,4 +1,4 @@
-use Rattle.std.proofs.Common.{◌≡◌, ◌<◌, sym, ◌∙◌, subst}
+use Rattle.std.proofs.Common.{◌<◌, sym, ◌∙◌, subst}
 use Rattle.program.specs.Program.{parts_of}
 use Rattle.miss_handler.specs.declared.state.Advance.{Advance}
 use Rattle.miss_handler.specs.States.{Receivers, checks_of, StaysLawful, CoversAfter, Later}
@@ -22,4 +22,4 @@ returns-clause-lawful g c =
 pub returns-clause-covers : goal.returns-clause-covers
 returns-clause-covers g c =
     let r : Receivers = receivers_at c.args.linked.now c.args.site.0 in
-    subst (λ (a : Advance). CoversAfter r a.state (checks_of c.args.row.now) a c.args.c.0) (sym c.advance_of.ensures.next) (next_covers r c.args.state (checks_of c.args.row.now) c.args.c.0)
+    subst (λ (a : Advance). CoversAfter r (checks_of c.args.row.now) a c.args.c.0) (sym c.advance_of.ensures.next) (next_covers r c.args.state (checks_of c.args.row.now) c.args.c.0)

@@ -1,5 +1,5 @@
 use Rattle.std.proofs.Common.{◌∙◌, ap}
-use Rattle.miss_handler.proofs.Places.{selector_is, selector_low}
+use Rattle.miss_handler.proofs.Places.{selector_low}
 use Rattle.miss_handler.proofs.miss.selector_at.Goals as goal
 
 pub returns-clause-there : goal.returns-clause-there

@@ -1,5 +1,4 @@
-use Rattle.std.proofs.Common.{◌≡◌, Bool, not, slice_get, Some, ◌∙◌, sym, ap}
-use Rattle.program.specs.Parts.{is_concrete}
+use Rattle.std.proofs.Common.{not, slice_get, ◌∙◌, sym, ap}
 use Rattle.program.specs.Program.{parts_of}
 use Rattle.class_table.specs.Table.{Table}
 use Rattle.miss_handler.specs.States.{Receivers, same_target}

@@ -1,7 +1,5 @@
-use Rattle.std.proofs.Common.{◌≡◌, ◌≤◌, length, map, ◌∙◌, sym, ap, arith}
-use Rattle.std.proofs.lemmas.List.{length-map}
+use Rattle.std.proofs.Common.{length, ◌∙◌, sym, ap, arith}
 use Rattle.program.specs.Lookup.{resolve}
-use Rattle.program.specs.Hierarchy.{chain}
 use Rattle.program.specs.Parts.{parents}
 use Rattle.program.specs.Program.{parts_of}
 use Rattle.miss_handler.proofs.Places.{resolve_at, length-chain}
