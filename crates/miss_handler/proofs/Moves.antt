@@ -1,19 +1,18 @@
 -- What a miss keeps.
-use Rattle.std.proofs.Common.{◌≡◌, ◌≢◌, ◌⊎◌, ℕ, zero, suc, ◌+◌, ◌-◌, ◌<◌, ◌≤◌, Bool, true, false, not, ◌&&◌, ◌||◌, ◌==◌, min, max, List, [], ◌∷◌, ◌++◌, length, IsTrue, nat_lt, if◌then◌else◌, Option, Some, None, ◌∙◌, sym, refl, subst, ap, inl, inr, ⊎_elim, arith}
+use Rattle.std.proofs.Common.{◌≡◌, ◌≢◌, ◌⊎◌, ℕ, ◌+◌, ◌<◌, ◌≤◌, true, false, not, ◌==◌, min, max, List, [], ◌∷◌, ◌++◌, length, IsTrue, nat_lt, if◌then◌else◌, Some, None, ◌∙◌, sym, refl, subst, inl, inr, ⊎_elim, arith}
 use Rattle.std.specs.Prelude.{All}
-use Rattle.std.proofs.lemmas.Bool.{eqb-true, eqb-false, eq-eqb}
+use Rattle.std.proofs.lemmas.Bool.{eqb-false, eq-eqb}
 use Rattle.std.proofs.lemmas.Bool.Decides.{nat_tests}
-use Rattle.std.proofs.lemmas.List.{append-nil, length-append, nil_from_length, length_push}
+use Rattle.std.proofs.lemmas.List.{nil_from_length, length_push}
 use Rattle.std.proofs.lemmas.List.Elements.{All-nil, All-cons, All-append}
 use Rattle.std.proofs.lemmas.List.Folds.{list_any-append}
 use native.Mathlib.Decide.{dec_le}
-use Rattle.program.specs.declared.ids.ClassId.{ClassId}
 use Rattle.program.specs.declared.numbered.Target.{Target}
 use Rattle.miss_handler.specs.declared.row.Check.{Check}
 use Rattle.miss_handler.specs.declared.state.Advance.{Advance}
 use Rattle.miss_handler.specs.declared.state.CallState.{CallState}
 use Rattle.miss_handler.specs.declared.state.CallState.TheVariants.{Unlinked, Mono, Single, Cached, Mega}
-use Rattle.miss_handler.specs.States.{Receivers, class_id, check, has, Covers, covers, Explains, OneTarget, LawfulState, IsRight, Differ, MayHave, Lawful, one_target, advance, range_or, next, added, row_with, row_after, CoversAfter, moves, Move, Widens, IsCachedOrMega, Later, Apart, Reached}
+use Rattle.miss_handler.specs.States.{Receivers, class_id, check, has, covers, Explains, OneTarget, LawfulState, IsRight, Differ, MayHave, Lawful, one_target, advance, range_or, next, row_after, CoversAfter, moves, Move, IsCachedOrMega, Later, Apart, Reached}
 use Rattle.miss_handler.proofs.Tests.{one_target_yes, one_target_no, has-append}
 
 one_of_min : (P : ℕ → Type 0) (a b : ℕ) → P a → P b → P (min a b)
@@ -162,9 +161,9 @@ has_behind : (row more : List Check) (c : ℕ) → has more c ≡ true → has (
 has_behind row more c h = let both = list_any-append (λ k. k.class.0 == c) row more in grind (arith, nat_tests)
 
 abbrev CoveredAfter : Receivers → List Check → ℕ → Advance → Type 0
-CoveredAfter r row c a = CoversAfter r a.state row a c
+CoveredAfter r row c a = CoversAfter r row a c
 
-pub next_covers : (r : Receivers) (s : CallState) (row : List Check) (c : ℕ) → CoversAfter r (next r s row c).state row (next r s row c) c
+pub next_covers : (r : Receivers) (s : CallState) (row : List Check) (c : ℕ) → CoversAfter r row (next r s row c) c
 next_covers r Unlinked row c = refl
 next_covers r (Mono a) row c =
     range_cases (CoveredAfter r row c) r (min a.0 c) (max a.0 c) (r.resolve a.0) _ (λ _. (omega arith, omega arith))

@@ -1,5 +1,5 @@
 -- The order of states.
-use Rattle.std.proofs.Common.{◌≡◌, ℕ, ◌≤◌, List, [], IsTrue, ◌++◌, ◌∙◌, sym, refl, subst, ap, arith}
+use Rattle.std.proofs.Common.{ℕ, List, [], ◌++◌, ◌∙◌, sym, refl, subst, ap, arith}
 use Rattle.std.proofs.lemmas.List.{append-nil, append_assoc}
 use Rattle.program.specs.declared.numbered.Target.{Target}
 use Rattle.miss_handler.specs.declared.row.Check.{Check}

@@ -1,9 +1,8 @@
 -- Runs of a site: what holds after any calls.
-use Rattle.std.proofs.Common.{◌≡◌, ℕ, ◌+◌, ◌<◌, ◌≤◌, Bool, true, false, List, [], ◌∷◌, ◌++◌, IsTrue, if◌then◌else◌, sym, refl, subst, arith}
+use Rattle.std.proofs.Common.{◌≡◌, ℕ, ◌+◌, ◌<◌, ◌≤◌, true, false, List, [], ◌∷◌, ◌++◌, IsTrue, if◌then◌else◌, sym, refl, subst}
 use Rattle.std.proofs.lemmas.List.Elements.{All-nil}
 use Rattle.std.proofs.lemmas.List.Sums.{fold-append}
 use Rattle.miss_handler.specs.declared.state.CallState.{CallState}
-use Rattle.miss_handler.specs.declared.state.CallState.TheVariants.{Unlinked}
 use Rattle.miss_handler.specs.States.{Receivers, IsRight, Lawful, covers, next, moves, Later, Explains, SiteCell, unlinked, missed, called, after_calls, alone, Reached}
 use Rattle.miss_handler.proofs.Orders.{later-refl, later_trans, explains_later, covers_explains}
 use Rattle.miss_handler.proofs.Tests.{covers_yes}

@@ -1,11 +1,13 @@
 -- What the tests of specs/ say.
-use Rattle.std.proofs.Common.{◌≡◌, ◌≢◌, ℕ, zero, suc, ◌+◌, ◌-◌, ◌<◌, ◌≤◌, Bool, true, false, not, ◌&&◌, ◌||◌, List, [], ◌∷◌, ◌++◌, length, IsTrue, ◌==◌, ◌∙◌, sym, refl, subst, ap, arith}
+use Rattle.std.proofs.Common.{◌≡◌, ◌≢◌, ◌↔◌, ℕ, zero, suc, ◌+◌, ◌-◌, ◌<◌, ◌≤◌, Bool, true, false, not, ◌||◌, List, [], ◌∷◌, ◌++◌, IsTrue, ◌==◌, ◌∙◌, sym, refl, subst, ap, arith}
 use Rattle.std.specs.List.{list_all}
 use Rattle.std.proofs.lemmas.Bool.{eqb-true, eqb-false}
 use Rattle.std.proofs.lemmas.Bool.Decides.{nat_tests}
 use Rattle.std.proofs.lemmas.List.Folds.{list_any-append}
+use native.Mathlib.Decide.{dec_lt}
 use Rattle.program.specs.declared.numbered.Target.{Target}
 use Rattle.program.specs.declared.numbered.Target.TheVariants.{Method, Nsm}
+use Rattle.program.specs.contracts.numbered.TargetPartialEq.TheImpl as the
 use Rattle.miss_handler.specs.declared.row.Check.{Check}
 use Rattle.miss_handler.specs.declared.state.CallState.{CallState}
 use Rattle.miss_handler.specs.declared.state.CallState.TheVariants.{Unlinked, Mono, Single, Cached, Mega}
@@ -47,6 +49,13 @@ same_target-refl (Nsm m) = grind (arith, nat_tests)
 pub same_target_no : (a b : Target) → same_target a b ≡ false → a ≢ b
 same_target_no a b h e = let yes = same_target-refl a in let no : same_target a a ≡ false = subst (λ z. same_target a z ≡ false) (sym e) h in absurd cc
 
+-- what `==` of targets computes
+pub derived_is : (a b : Target) → the.eq-value.it a b ≡ same_target a b
+derived_is (Method m) (Method n) = refl
+derived_is (Method m) (Nsm n) = refl
+derived_is (Nsm m) (Method n) = refl
+derived_is (Nsm m) (Nsm n) = refl
+
 all_of : (p : ℕ → Bool) (lo n : ℕ) → list_all p (numbers_from lo n) ≡ true → (c : ℕ) → lo ≤ c → c < lo + n → p c ≡ true
 all_of p lo zero h c low high = absurd (omega arith)
 all_of p lo (suc n) h c low high =
@@ -74,6 +83,12 @@ of_all p lo (suc n) h =
     let rest : list_all p (numbers_from (suc lo) n) ≡ true = of_all p (suc lo) n (λ c low high. h c (omega arith) (omega arith)) in
     grind (arith, nat_tests)
 
+pub serves_abstract : (r : Receivers) (t : Target) (c : ℕ) → r.concrete c ≡ false → serves r t c ≡ true
+serves_abstract r t c h = ap (λ b. not b || same_target (r.resolve c) t) h
+
+pub serves_concrete : (r : Receivers) (t : Target) (c : ℕ) → r.concrete c ≡ true → serves r t c ≡ same_target (r.resolve c) t
+serves_concrete r t c h = ap (λ b. not b || same_target (r.resolve c) t) h
+
 serves_yes : (r : Receivers) (t : Target) (c : ℕ) → serves r t c ≡ true → IsTrue (r.concrete c) → r.resolve c ≡ t
 serves_yes r t c h concrete = same_target_yes (r.resolve c) t (grind (arith, nat_tests))
 
@@ -97,3 +112,22 @@ yes_one_target r lo hi t h = of_all (serves r t) lo ((hi + 1) - lo) (λ c low hi
 pub one_target_no : (r : Receivers) (lo hi : ℕ) (t : Target) → one_target r lo hi t ≡ false → (d : ℕ) × (lo ≤ d) × (d ≤ hi) × IsTrue (r.concrete d) × (r.resolve d ≢ t)
 unfolding one_target
 one_target_no r lo hi t h = let f = some_of (serves r t) lo ((hi + 1) - lo) h in let g = serves_no r t f.0 f.3 in (f.0, f.1, let low = f.1 in let high = f.2 in omega arith, g.0, same_target_no (r.resolve f.0) t g.1)
+
+pub one_target_fails : (r : Receivers) (lo hi : ℕ) (t : Target) (c : ℕ) → lo ≤ c → c ≤ hi → serves r t c ≡ false → one_target r lo hi t ≡ false
+unfolding one_target
+one_target_fails r lo hi t c low high h =
+    elim (list_all (serves r t) (numbers_from lo ((hi + 1) - lo))) as (λ b. list_all (serves r t) (numbers_from lo ((hi + 1) - lo)) ≡ b → b ≡ false) [
+      | true ↦ λ e. let yes = all_of (serves r t) lo ((hi + 1) - lo) e c low (omega arith) in absurd cc
+      | false ↦ λ e. refl
+    ] refl
+
+-- each class up to n was tested, and none from n to hi is concrete
+pub one_target_tested : (r : Receivers) (lo hi : ℕ) (t : Target) (n : ℕ) → ((c : ℕ) → lo ≤ c → c < n → serves r t c ≡ true) → ((c : ℕ) → n ≤ c → c ≤ hi → ¬ IsTrue (r.concrete c)) → one_target r lo hi t ≡ true
+one_target_tested r lo hi t n tested none = yes_one_target r lo hi t (λ c low high it. by_order c low high it (dec_lt c n))
+  where
+    by_order : (c : ℕ) → lo ≤ c → c ≤ hi → IsTrue (r.concrete c) → Dec (c < n) → r.resolve c ≡ t
+    by_order c low high it (yes h) = serves_yes r t c (tested c low h) it
+    by_order c low high it (no h) = absurd (none c (omega arith) high it)
+
+pub range_is : (r : Receivers) (lo hi : ℕ) (t : Target) (b : Bool) → b ≡ one_target r lo hi t → IsTrue b ↔ OneTarget r lo hi t
+range_is r lo hi t b is = (λ e. one_target_yes r lo hi t (sym is ∙ e), λ h. is ∙ yes_one_target r lo hi t h)

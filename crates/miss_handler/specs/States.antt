@@ -30,6 +30,7 @@ pub record Receivers : Type 0 where
   pub concrete : ℕ → Bool
   pub resolve : ℕ → Target
 
+-- a class by its number
 abbrev pub class_id : ℕ → ClassId
 class_id c = record { 0 = c }
 
@@ -116,6 +117,7 @@ abbrev pub numbers_from : ℕ → ℕ → List ℕ
 numbers_from lo zero = []
 numbers_from lo (suc n) = lo ∷ numbers_from (suc lo) n
 
+-- whether two targets are the same
 abbrev pub same_target : Target → Target → Bool
 same_target (Method m) (Method n) = m.0 == n.0
 same_target (Nsm m) (Nsm n) = m.0 == n.0
@@ -129,6 +131,7 @@ serves r t c = not (r.concrete c) || same_target (r.resolve c) t
 unfoldable pub one_target : Receivers → ℕ → ℕ → Target → Bool
 one_target r lo hi t = list_all (serves r t) (numbers_from lo ((hi + 1) - lo))
 
+-- a new state, and the classes to add
 abbrev pub advance : CallState → Option ClassId → Option ClassId → Advance
 advance state first second = record { state = state; add_first = first; add_second = second }
 
@@ -136,12 +139,16 @@ advance state first second = record { state = state; add_first = first; add_seco
 abbrev pub range_or : Receivers → ℕ → ℕ → Target → Advance → Advance
 range_or r lo hi t other = if one_target r lo hi t then advance (Single (class_id lo) (class_id hi) t) None None else other
 
+-- Cached while the row has room
+abbrev pub state_by_room : List Check → CallState
+state_by_room row = if nat_lt (length row) 4 then Cached else Mega
+
 -- what a call on a concrete class c that is not covered makes of a site: its state, and the classes to add to its row or, in Mega, to its selector's table
 abbrev pub next : Receivers → CallState → List Check → ℕ → Advance
 next r Unlinked row c = advance (Mono (class_id c)) None None
 next r (Mono a) row c = range_or r (min a.0 c) (max a.0 c) (r.resolve a.0) (advance Cached (Some a) (Some (class_id c)))
 next r (Single lo hi t) row c = range_or r (min lo.0 c) (max hi.0 c) t (advance Cached (Some (class_id c)) None)
-next r Cached row c = advance (if nat_lt (length row) 4 then Cached else Mega) (Some (class_id c)) None
+next r Cached row c = advance (state_by_room row) (Some (class_id c)) None
 next r Mega row c = advance Mega (Some (class_id c)) None
 
 -- the check of a class to be added
@@ -161,13 +168,21 @@ row_with Mega row more = row
 abbrev pub row_after : Receivers → List Check → Advance → List Check
 row_after r row a = row_with a.state row (added r a.add_first ++ added r a.add_second)
 
--- class c is covered once the adds are made: in Mega, since it goes into the table
-abbrev pub CoversAfter : Receivers → CallState → List Check → Advance → ℕ → Type 0
-CoversAfter r Unlinked row a c = Covers a.state (row_after r row a) c
-CoversAfter r (Mono b) row a c = Covers a.state (row_after r row a) c
-CoversAfter r (Single lo hi t) row a c = Covers a.state (row_after r row a) c
-CoversAfter r Cached row a c = Covers a.state (row_after r row a) c
-CoversAfter r Mega row a c = a.add_first ≡ Some (class_id c)
+-- a lawful site is lawful again once the adds are made
+abbrev pub StaysLawful : Receivers → CallState → List Check → Advance → Type 0
+StaysLawful r state row a = Lawful r state row → Lawful r a.state (row_after r row a)
+
+-- class c is covered by the state and the row; in Mega, since it was added to the table
+abbrev pub CoversWith : CallState → List Check → Option ClassId → ℕ → Type 0
+CoversWith Unlinked row add c = Covers Unlinked row c
+CoversWith (Mono a) row add c = Covers (Mono a) row c
+CoversWith (Single lo hi t) row add c = Covers (Single lo hi t) row c
+CoversWith Cached row add c = Covers Cached row c
+CoversWith Mega row add c = add ≡ Some (class_id c)
+
+-- class c is covered once the adds are made
+abbrev pub CoversAfter : Receivers → List Check → Advance → ℕ → Type 0
+CoversAfter r row a c = CoversWith a.state (row_after r row a) a.add_first c
 
 -- whether a miss changes the state
 abbrev pub moves : CallState → List Check → Bool
@@ -193,6 +208,7 @@ Widens lo hi t (Single l h u) = (l.0 ≤ lo) × (hi ≤ h.0) × (u ≡ t)
 Widens lo hi t Cached = Unit {0}
 Widens lo hi t Mega = Unit {0}
 
+-- one of the last two states
 abbrev pub IsCachedOrMega : CallState → Type 0
 IsCachedOrMega Unlinked = ⊥
 IsCachedOrMega (Mono a) = ⊥
@@ -220,6 +236,7 @@ pub record SiteCell : Type 0 where
   pub row : List Check
   pub stamp : ℕ
 
+-- a site that had no call
 abbrev pub unlinked : SiteCell
 unlinked = record { state = Unlinked; row = []; stamp = 0 }
 
