@@ -15,6 +15,7 @@ pub record About : Type 0 where
   pub classes : ℕ
   pub at : ℕ → Receivers
 
+-- that of a linked program
 abbrev pub about_of : Linked → About
 about_of linked = record { sites = length linked.program.sites; classes = length linked.program.classes; at = receivers_at linked }
 

@@ -38,6 +38,7 @@ pub record IsHistory (p : About) (x : ℕ) (t : History) : Type 0 where
   pub lawful : Lawful (p.at x) (present t) t.row
   pub rising : (j k : ℕ) → j ≤ k → k ≤ t.top → Later (t.at j).state (t.at k).state
 
+-- each site has a possible history
 abbrev pub Good : About → Histories → Type 0
 Good p h = (x : ℕ) → x < p.sites → IsHistory p x (h x)
 
@@ -62,6 +63,7 @@ settled false l = l
 settled true [] = []
 settled true (a ∷ l) = l
 
+-- a call of class c at site x
 abbrev pub call : ℕ → ℕ → Asked
 call x c = record { site = x; class = c }
 

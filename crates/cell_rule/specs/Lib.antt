@@ -9,3 +9,4 @@ pub mod Stamps
 pub mod Steps
 pub mod Runs
 pub mod Parts
+pub mod Laws

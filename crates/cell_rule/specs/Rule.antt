@@ -37,6 +37,7 @@ pub record Worded (t : History) (x : ℕ) (words : List ℕ) : Type 0 where
   pub info : slice_index words (data_at x) ≡ data_word t.top (t.at t.top)
   pub checks : (q : ℕ) → q < 4 → slice_index words (check_at x q) ≡ row_word t.row q
 
+-- what a view has of the 65,536 shares
 abbrev pub share : View → ℕ
 share v = v.share
 
@@ -55,6 +56,7 @@ Shown views t x = t.low < t.top → (j : ℕ) × (v : View) × (get_elem? views 
 abbrev pub Over : List View → History → ℕ → Type 0
 Over views t x = present t ≡ Mega → (c : ℕ) × Called views x c × (has t.row c ≡ false)
 
+-- The rule: the words are those of the histories, which are possible; each state was reached by classes that were called; and each view knows only what stood there
 pub record Ruled (p : About) (s : State (Unit {0}) View) : Type 0 where
   pub h : Histories
   pub sound : Sound p

@@ -15,9 +15,10 @@ use Rattle.cell_rule.specs.Lists.{Each, Has}
 use Rattle.cell_rule.specs.About.{About, about_of}
 use Rattle.cell_rule.specs.Histories.{Histories, Good, Known, Explained, Called, present, call}
 use Rattle.cell_rule.specs.Rule.{Worded}
-use Rattle.cell_rule.specs.Told.{Learnt, begins, goes_on, HeadSeen, DataSeen}
+use Rattle.cell_rule.specs.Told.{Learnt, begins, goes_on, HeadSeen, DataSeen, Won}
 use Rattle.miss_handler.specs.States.{Reached}
 
+-- a seat of the table
 abbrev pub Place : Type 0
 Place = Seat (Unit {0}) View
 
@@ -29,6 +30,7 @@ IsNamed p x t site = (p ≡ about_of t.table.shared.key.value) × (x ≡ site)
 abbrev pub InReach : About → ℕ → CellWords → Place → Type 0
 InReach p x t s = (s.table_id ≡ t.table.shared.table_id) × (0 < s.me.0.share) × (x < p.sites)
 
+-- it is the same seat of the same table
 abbrev pub SameSeat : Place → Place → Type 0
 SameSeat s t = (t.table_id ≡ s.table_id) × (t.id ≡ s.id) × (t.me.1 ≡ s.me.1)
 
@@ -51,6 +53,10 @@ HeadTo p x s r t = HeadSeen p x r.0 r.1 (goes_on s.me.0) t.me.0
 -- the data word of the stamp r.0 was seen
 abbrev pub DataTo : About → ℕ → ℕ → Place → ℕ × Info → Place → Type 0
 DataTo p x c s r t = DataSeen p x c r.0 r.1 s.me.0 t.me.0
+
+-- the transition was installed, or another data word stood there
+abbrev pub AdvancedTo : About → ℕ → ℕ → ℕ × Info → Info → Place → Option (ℕ × Info) → Place → Type 0
+AdvancedTo p x c seen next s r t = MatchOption r (Won p x seen.0 seen.1 next s.me.0 t.me.0) (λ d. DataTo p x c s d t)
 
 -- the check q was seen
 abbrev pub CheckTo : About → ℕ → ℕ → Place → Option Check → Place → Type 0

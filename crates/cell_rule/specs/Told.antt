@@ -36,6 +36,7 @@ goes_on v e = sees v e v.pending
 abbrev pub begins : View → Asked → Seen → View
 begins v a e = record { share = v.share; seen = e ∷ v.seen; trace = e ∷ []; changes = []; asked = a ∷ v.asked; pending = true }
 
+-- the transition from i to j, which has the stamp k
 abbrev pub change : ℕ → Info → Info → Change
 change k i j = record { stamp = k; from = i; to = j }
 
@@ -112,10 +113,11 @@ DataIs p x c n v w = (k : ℕ) × (i : Info) × (n ≡ data_word k i) × DataSee
 abbrev pub WonAs : About → ℕ → ℕ → ℕ → View → View → Type 0
 WonAs p x old new v w = (k : ℕ) × (i : Info) × (j : Info) × DataFits k i × DataFits (k + 1) j × (old ≡ data_word k i) × (new ≡ data_word (k + 1) j) × Won p x k i j v w
 
--- the operands of a step, and its seat's view
+-- the operands of a step
 abbrev pub At : Type 0
 At = Step (Unit {0})
 
+-- the view of a seat, and the slots that it has taken, of which there are none
 abbrev pub Sat : Type 0
 Sat = Me (Unit {0}) View
 

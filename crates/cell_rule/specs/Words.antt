@@ -125,3 +125,19 @@ entry_at Mega t = entry stub.Mega no_target
 -- the target word that goes with a data word
 abbrev pub entry_of : Info → Entry
 entry_of i = entry_at i.state i.target
+
+-- what a data word says
+abbrev pub SaysData : ℕ → ℕ × CallState × Target → Type 0
+SaysData n r = DataFits r.0 (info r.1 r.2) × (n ≡ data_word r.0 (info r.1 r.2))
+
+-- what a target word says
+abbrev pub SaysTarget : ℕ → ℕ × Stub × Target → Type 0
+SaysTarget n r = TargetFits r.0 (entry r.1 r.2) × (n ≡ target_word r.0 (entry r.1 r.2))
+
+-- what a check says
+abbrev pub SaysCheck : ℕ → Check → Type 0
+SaysCheck n k = CheckFits k × (n ≡ check_word k)
+
+-- the number is that of the target word which goes with a data word
+abbrev pub GoesWith : ℕ → ℕ → Type 0
+GoesWith n m = (k : ℕ) (i : Info) → DataFits k i → n ≡ data_word k i → m ≡ target_word k (entry_of i)

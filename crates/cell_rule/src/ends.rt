@@ -27,7 +27,8 @@ impl CellWords {
     /// The words of a program's sites, all of them unlinked, and the first seat.
     pub fn build(alloc: Global, linked: &Linked) -> Result<(CellWords, Seat<(), View>), NoMemory>
         ensures key { IfOk result (λ r. r.0.table.shared.key.value ≡ linked.now) }
-        ensures seat { IfOk result (λ r. (r.1.table_id ≡ r.0.table.shared.table_id) × (r.1.me ≡ (newcomer, []))) }
+        ensures own { IfOk result (λ r. r.1.table_id ≡ r.0.table.shared.table_id) }
+        ensures new { IfOk result (λ r. r.1.me ≡ (newcomer, [])) }
     {
         let words = zeros(alloc, 6 * linked.program().sites.len() + 1)?;
         let about = Snapshot::of(linked);

@@ -1,8 +1,7 @@
 // The steps of a call, each one step of the table, and counted.
-ghost use Rattle.cell_rule.specs.Steps.{IsNamed, InReach, SameSeat, IsCurrent, OpensTo, HeadTo, DataTo, CheckTo, OthersSeen, CallsIt, CachedSeen};
+ghost use Rattle.cell_rule.specs.Steps.{IsNamed, InReach, SameSeat, IsCurrent, OpensTo, HeadTo, DataTo, AdvancedTo, CheckTo, OthersSeen, CallsIt, CachedSeen};
 ghost use Rattle.cell_rule.specs.Words.{data_word, target_word, entry_of, DataFits, TargetFits, CheckFits, IsDataWord, IsTargetWord};
 ghost use Rattle.cell_rule.specs.Histories.{Moved};
-ghost use Rattle.cell_rule.specs.Told.{Won};
 ghost use Rattle.cell_rule.specs.Lists.{Has};
 ghost use Rattle.cell_rule.specs.declared.view.Seen.TheVariants.{Head, Data};
 ghost use Rattle.std.specs.Prelude.{◌≡◌, ℕ, ◌+◌, ◌*◌, ◌<◌, ◌≤◌, false, MatchOption, Some, IsTrue};
@@ -119,7 +118,7 @@ pub fn advance_data<N: Call, L: Ledger>(
     requires moved { Moved N.about N.site N.class seen.1 next seat.old.me.0.seen }
     requires fits { DataFits seen.0 seen.1 × DataFits (seen.0 + 1) next }
     ensures same { SameSeat seat.old seat.new }
-    ensures won { MatchOption result (Won N.about N.site seen.0 seen.1 next seat.old.me.0 seat.new.me.0) (λ r. DataTo N.about N.site N.class seat.old r seat.new) }
+    ensures won { AdvancedTo N.about N.site N.class seen next seat.old result seat.new }
     ensures rose { MatchOption result (Unit {0}) (λ r. seen.0 < r.0) }
     ensures cost { steps.new ≡ steps.old + 1 }
 {

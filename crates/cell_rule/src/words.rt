@@ -8,9 +8,8 @@
 //
 // In a target, bits 0 to 14 are the method and bit 15 says that it is the receiver's `noSuchMethod`.
 // The stub takes bits 16 to 18. An empty check is 0.
-ghost use Rattle.cell_rule.specs.Words.{data_word, target_word, check_word, info, entry, entry_of, entry_at, DataFits, TargetFits, CheckFits, StateFits, StubFits, IsDataWord, IsTargetWord, IsCheckWord, IsSmall, target_field, kind_of, low_of, high_of, stub_number};
+ghost use Rattle.cell_rule.specs.Words.{SaysData, SaysTarget, SaysCheck, GoesWith, data_word, target_word, check_word, info, entry, entry_of, entry_at, DataFits, TargetFits, CheckFits, StateFits, StubFits, IsDataWord, IsTargetWord, IsCheckWord, IsSmall, target_field, kind_of, low_of, high_of, stub_number};
 ghost use Rattle.cell_rule.specs.Unpacked.{target_from, state_from, stub_from};
-ghost use Rattle.cell_rule.specs.declared.words.Info.{Info as What};
 ghost use Rattle.std.specs.Prelude.{◌≡◌, ℕ, ◌<◌, IsTrue, ◌↔◌, MatchOption};
 
 use miss_handler::{CallState, Check};
@@ -142,7 +141,7 @@ fn fits_data(state: CallState, t: Target) -> bool
 
 /// The stamp, the state and the target of a data word. None for what is no packed one.
 pub fn unpack_data(word: u64) -> Option<(u16, CallState, Target)>
-    ensures { MatchOption result (¬ IsDataWord word) (λ r. DataFits r.0 (info r.1 r.2) × (word ≡ data_word r.0 (info r.1 r.2))) }
+    ensures { MatchOption result (¬ IsDataWord word) (SaysData word) }
 {
     let target = target_in((word % TARGETS) as u16);
     let high = (word / TARGETS % CLASSES) as u16;
@@ -182,7 +181,7 @@ fn fits_target(stub: Stub, t: Target) -> bool
 
 /// The stamp, the stub and the target of a target word. None for what is no packed one.
 pub fn unpack_target(word: u64) -> Option<(u16, Stub, Target)>
-    ensures { MatchOption result (¬ IsTargetWord word) (λ r. TargetFits r.0 (entry r.1 r.2) × (word ≡ target_word r.0 (entry r.1 r.2))) }
+    ensures { MatchOption result (¬ IsTargetWord word) (SaysTarget word) }
 {
     let target = target_in((word % TARGETS) as u16);
     let stub = stub_in(word / TARGETS % STUBS);
@@ -226,7 +225,7 @@ pub fn entry_for(state: CallState, t: Target) -> Entry
 /// The target word that goes with a data word.
 pub fn target_of(word: u64) -> u64
     requires { IsDataWord word }
-    ensures { (k : ℕ) (i : What) → DataFits k i → word ≡ data_word k i → result ≡ target_word k (entry_of i) }
+    ensures { GoesWith word result }
 {
     match unpack_data(word) {
         Some((stamp, state, t)) => {
@@ -248,7 +247,7 @@ pub fn pack_check(check: Check) -> u64
 
 /// The check of a word. None for what is no check that is set, as an empty one.
 pub fn unpack_check(word: u64) -> Option<Check>
-    ensures { MatchOption result (¬ IsCheckWord word) (λ r. CheckFits r × (word ≡ check_word r)) }
+    ensures { MatchOption result (¬ IsCheckWord word) (SaysCheck word) }
 {
     let target = target_in((word % TARGETS) as u16);
     let class = ClassId((word / TARGETS % CLASSES) as u16);
