@@ -1,0 +1,12 @@
+pub mod Words
+pub mod Unpacked
+pub mod Lists
+pub mod About
+pub mod Histories
+pub mod Rule
+pub mod Told
+pub mod Stamps
+pub mod Steps
+pub mod Runs
+pub mod Parts
+pub mod Laws
