@@ -4,6 +4,8 @@
 mod miss;
 mod row;
 mod state;
+#[cfg(test)]
+mod state_tests;
 
 pub use miss::{is_single_range, next, selector_at};
 pub use row::{Check, Row};
