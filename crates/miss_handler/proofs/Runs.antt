@@ -53,7 +53,7 @@ abbrev pub ReachedCell : Receivers → (ℕ → Type 0) → SiteCell → Type 0
 ReachedCell r Called cell = Reached r cell.stamp cell.state Called
 
 module _ (r : Receivers) (Called : ℕ → Type 0) (concrete : (c : ℕ) → Called c → IsTrue (r.concrete c)) where
-  missed_reached : (cell : SiteCell) (c : ℕ) → Called c → LawfulCell r cell → ReachedCell r Called cell → covers cell.state cell.row c ≡ false → ReachedCell r Called (missed r cell c)
+  pub missed_reached : (cell : SiteCell) (c : ℕ) → Called c → LawfulCell r cell → ReachedCell r Called cell → covers cell.state cell.row c ≡ false → ReachedCell r Called (missed r cell c)
   missed_reached cell c it l h un =
       elim (moves cell.state cell.row) as (λ b. moves cell.state cell.row ≡ b → Reached r (if b then cell.stamp + 1 else cell.stamp) (next r cell.state cell.row c).state Called) [
         | true ↦ λ e. next_reached r Called concrete c it cell.stamp cell.state cell.row l.named h un e

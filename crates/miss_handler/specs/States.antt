@@ -13,7 +13,7 @@
 --   Mega     --> Mega     a class that is not in the table: it goes into the table
 --
 -- All but the two that keep a Cached or Mega site as it is are transitions: each raises the site's stamp by one.
-use Rattle.std.specs.Prelude.{◌≡◌, ◌≢◌, ℕ, zero, suc, ◌+◌, ◌-◌, ◌<◌, ◌≤◌, Bool, true, false, not, ◌&&◌, ◌||◌, ◌==◌, nat_lt, nat_le, if◌then◌else◌, min, max, IsTrue, List, [], ◌∷◌, ◌++◌, length, take, fold, All, Option, None, Some}
+use Rattle.std.specs.Prelude.{◌≡◌, ◌≢◌, ℕ, zero, suc, ◌+◌, ◌-◌, ◌<◌, ◌≤◌, Bool, true, false, not, ◌&&◌, ◌||◌, ◌==◌, nat_lt, nat_le, if◌then◌else◌, min, max, IsTrue, List, [], ◌∷◌, ◌++◌, length, take, fold, All, Option, None, Some, option_map, find}
 use Rattle.std.specs.List.{list_any, list_all}
 use Rattle.program.specs.declared.ids.ClassId.{ClassId}
 use Rattle.program.specs.declared.numbered.Target.{Target}
@@ -47,6 +47,10 @@ checks_of row = take row.len row.checks
 -- class c is in the row
 abbrev pub has : List Check → ℕ → Bool
 has row c = list_any (λ k. k.class.0 == c) row
+
+-- the target of its check
+abbrev pub target_in : List Check → ℕ → Option Target
+target_in row c = option_map (λ (k : Check). k.target) (find (λ k. k.class.0 == c) row)
 
 -- The state answers for class c as it stands. In Mega the table of the site's selector is asked, and not the site.
 abbrev pub Covers : CallState → List Check → ℕ → Type 0

@@ -22,12 +22,7 @@ pub fn selector_at(linked: &Linked, site: SiteId) -> SelectorId
 }
 
 /// Where a call at a site on the class goes.
-fn target_at<L: Ledger>(
-    linked: &Linked,
-    site: SiteId,
-    c: ClassId,
-    steps: &mut Steps<L>,
-) -> Target
+fn target_at<L: Ledger>(linked: &Linked, site: SiteId, c: ClassId, steps: &mut Steps<L>) -> Target
     requires site { site.0 < length linked.now.program.sites }
     requires class { c.0 < length linked.now.program.classes }
     ensures target { result ≡ (receivers_at linked.now site.0).resolve c.0 }

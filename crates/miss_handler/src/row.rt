@@ -25,7 +25,7 @@ pub struct Row {
 
 impl Row {
     ghost use Rattle.std.specs.Prelude.{◌≡◌, ◌<◌, ◌++◌, [], ◌∷◌, length, option_map, slice_get, Some};
-    ghost use Rattle.miss_handler.specs.States.{check, checks_of, has};
+    ghost use Rattle.miss_handler.specs.States.{check, checks_of, has, target_in};
 
     pub fn empty() -> Row
         ensures { checks_of result ≡ [] }
@@ -84,5 +84,15 @@ impl Row {
         self.checks[..self.len as usize]
             .iter()
             .any(|k| k.class.0 == c.0)
+    }
+
+    /// The target of the class's check, if there is one.
+    pub fn target_of(&self, c: ClassId) -> Option<Target>
+        ensures { result ≡ target_in (checks_of self.now) c.0 }
+    {
+        self.checks[..self.len as usize]
+            .iter()
+            .find(|k| k.class.0 == c.0)
+            .map(|k| k.target)
     }
 }

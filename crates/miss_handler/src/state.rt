@@ -127,3 +127,14 @@ pub fn explains(state: CallState, c: ClassId) -> bool
         CallState::Cached | CallState::Mega => true,
     }
 }
+
+/// Whether a miss in the state, with this row, is a transition.
+pub fn is_transition(state: CallState, row: &Row) -> bool
+    ensures { result ≡ spec.moves state (checks_of row.now) }
+{
+    match state {
+        CallState::Unlinked | CallState::Mono(_) | CallState::Single(_, _, _) => true,
+        CallState::Cached => row.len() >= 4,
+        CallState::Mega => false,
+    }
+}

@@ -54,9 +54,9 @@ returns-clause-test g c =
     let end = c.end_of-class-end.ensures in
     let test = c.loop-class-test.false in
     sym (one_target_tested r c.args.lo.0 c.args.hi.0 c.args.t c.loop-class.class (λ d low high. c.loop-class.invariant.so_far d low high) (λ d low high it.
-        let there = concrete_within (parts_of c.args.linked.now.program) c.args.site.0 d it in
-        let all = classes_at (parts_of c.args.linked.now.program) c.args.site.0 in
-        omega arith))
+    let there = concrete_within (parts_of c.args.linked.now.program) c.args.site.0 d it in
+    let all = classes_at (parts_of c.args.linked.now.program) c.args.site.0 in
+    omega arith))
 
 pub returns-clause-range : goal.returns-clause-range
 returns-clause-range g c = range_is (receivers_at c.args.linked.now c.args.site.0) c.args.lo.0 c.args.hi.0 c.args.t _ (returns-clause-test g c)
