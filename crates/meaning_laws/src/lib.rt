@@ -1,0 +1,4 @@
+//! Laws of the meaning of numbered programs.
+#![tactic(auto)]
+
+pub mod laws;
