@@ -1,3 +1,5 @@
 pub mod Closed
 pub mod ClosedBodies
+pub mod Stores
 pub mod Lookups
+pub mod Turns

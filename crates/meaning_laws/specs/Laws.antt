@@ -14,7 +14,7 @@ use Rattle.dart_values.specs.Values.{Value, Heap, Thing, object}
 use Rattle.dart_meaning.specs.Laws.{IsFront}
 use Rattle.dart_meaning.specs.Numbered.{Code, of_numbered, method_at, fields, enter}
 use Rattle.dart_meaning.specs.Program.{Target, member, missing, resolve, Entry, no_such_method}
-use Rattle.dart_meaning.specs.Run.{Run, Result, went, ended}
+use Rattle.dart_meaning.specs.Run.{Run, Store, Result, went, ended}
 
 -- ---- calls
 
@@ -59,15 +59,16 @@ IfWent (went a r) P = P r
 IfWent (ended e r) P = Unit {0}
 
 -- No turn came back, and what was told is still told.
-pub record Goes {V : Type 0} (r s : Run V) : Type 0 where
-  pub turns : s.store.turns ≤ r.store.turns
-  pub lines : IsFront r.store.lines s.store.lines
-  pub asked : IsFront r.store.asked s.store.asked
-  pub tests : IsFront r.store.tests s.store.tests
+pub record Goes (s t : Store) : Type 0 where
+  pub turns : t.turns ≤ s.turns
+  pub lines : IsFront s.lines t.lines
+  pub asked : IsFront s.asked t.asked
+  pub tests : IsFront s.tests t.tests
 
 -- Each entry has at most the turns left that it began with, and adds to what is told.
 abbrev pub NoTurnComesBack : Type 0
-NoTurnComesBack = (p : Parts) → IsSound p → (depth : ℕ) (x : Entry Code) (r : Run Value) → Goes r (last (enter p depth x r))
+NoTurnComesBack = (p : Parts) → IsSound p → (depth : ℕ) (x : Entry Code) (r : Run Value) →
+    Goes r.store (last (enter p depth x r)).store
 
 -- There are as many top-level variables as at the start.
 abbrev pub GlobalsStay : Type 0

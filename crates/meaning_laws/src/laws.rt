@@ -1,9 +1,15 @@
 //! Laws of the meaning of numbered programs. Each is for every sound program and every entry, and so its function does nothing.
 
-ghost use Rattle.meaning_laws.specs.Laws.{CallsGoByNumbers, TargetsTakeTheCall};
+ghost use Rattle.meaning_laws.specs.Laws.{CallsGoByNumbers, TargetsTakeTheCall, NoTurnComesBack, GlobalsStay};
 
 /// Where a call goes is what the lookup by numbers says, and the member takes the call.
 pub fn calls_go_by_numbers()
     ensures same { CallsGoByNumbers }
     ensures answers { TargetsTakeTheCall }
+{}
+
+/// What an entry does to the store: no turn comes back, what was told is still told, and the top-level variables are as many.
+pub fn entries_go_on()
+    ensures turns { NoTurnComesBack }
+    ensures globals { GlobalsStay }
 {}
