@@ -1,5 +1,5 @@
 -- What is true of every sound numbered program: of its calls, and of all that an entry of it does.
-use Rattle.std.specs.Prelude.{◌≡◌, ℕ, ◌<◌, ◌≤◌, IsTrue, length, slice_get, Option, Some, option_map}
+use Rattle.std.specs.Prelude.{◌≡◌, ℕ, ◌<◌, ◌≤◌, IsTrue, List, [], length, slice_get, Option, Some, None, option_map, All}
 use Rattle.program.specs.declared.numbered.Method.{Method}
 use Rattle.program.specs.declared.numbered.Selector.{Selector}
 use Rattle.program.specs.declared.numbered.Target.TheVariants as target
@@ -10,9 +10,9 @@ use Rattle.program.specs.Lookup as numbers
 use Rattle.program.specs.Parts.{Parts, parents}
 use Rattle.program.specs.Sound.{Accepts}
 use Rattle.program.specs.Whole.{IsSound}
-use Rattle.dart_values.specs.Values.{Value, Heap, Thing, object}
+use Rattle.dart_values.specs.Values.{Value, Heap, Thing, object, list, invocation, classes}
 use Rattle.dart_meaning.specs.Laws.{IsFront}
-use Rattle.dart_meaning.specs.Numbered.{Code, of_numbered, method_at, fields, enter}
+use Rattle.dart_meaning.specs.Numbered.{Code, of_numbered, method_at, fields, enter, entry_run}
 use Rattle.dart_meaning.specs.Program.{Target, member, missing, resolve, Entry, no_such_method}
 use Rattle.dart_meaning.specs.Run.{Run, Store, Result, went, ended}
 
@@ -76,7 +76,7 @@ GlobalsStay = (p : Parts) → IsSound p → (depth : ℕ) (x : Entry Code) (r : 
     length (last (enter p depth x r)).store.globals ≡ length r.store.globals
 
 -- the run's variables and `this` are those of r
-pub record SameFrame {V : Type 0} (r s : Run V) : Type 0 where
+pub record SameFrame (r s : Run Value) : Type 0 where
   pub vars : s.vars ≡ r.vars
   pub this : s.this ≡ r.this
 
@@ -84,15 +84,30 @@ pub record SameFrame {V : Type 0} (r s : Run V) : Type 0 where
 abbrev pub EntriesLeaveTheFrame : Type 0
 EntriesLeaveTheFrame = (p : Parts) (depth : ℕ) (x : Entry Code) (r : Run Value) → IfWent (enter p depth x r) (SameFrame r)
 
+-- ---- the heap
+
 -- An object has as many fields as its class, which is Object or one of the user's.
 abbrev pub IsThing : Parts → Thing → Type 0
 IsThing p (object class held) = (length held ≡ length (fields p class)) × IsTrue (is_open class) × (class < length p.classes)
 IsThing p _ = Unit {0}
 
 abbrev pub IsHeap : Parts → Heap → Type 0
-IsHeap p heap = (a : ℕ) (thing : Thing) → slice_get heap a ≡ Some thing → IsThing p thing
+IsHeap p heap = All (IsThing p) heap
 
--- A heap of such objects stays one.
+-- Where all objects are such ones, they are so behind an entry.
 abbrev pub ObjectsHaveTheirFields : Type 0
-ObjectsHaveTheirFields = (p : Parts) → IsSound p → (depth : ℕ) (x : Entry Code) (r : Run Value) → IsHeap p r.store.heap →
-    IsHeap p (last (enter p depth x r)).store.heap
+ObjectsHaveTheirFields = (p : Parts) → IsSound p → (depth : ℕ) (x : Entry Code) (r : Run Value) →
+    IsHeap p r.store.heap → IsHeap p (last (enter p depth x r)).store.heap
+
+-- An address keeps its class.
+abbrev pub AddressesKeepTheirClass : Type 0
+AddressesKeepTheirClass = (p : Parts) → IsSound p → (depth : ℕ) (x : Entry Code) (r : Run Value) →
+    IsFront (classes r.store.heap) (classes (last (enter p depth x r)).store.heap)
+
+-- So it is in each run of an entry point, which begins with an empty heap and with the top-level variables at their literals.
+pub record Runs (p : Parts) (r : Run Value) : Type 0 where
+  pub heap : IsHeap p r.store.heap
+  pub globals : length r.store.globals ≡ length p.globals
+
+abbrev pub EntryPointsRun : Type 0
+EntryPointsRun = (p : Parts) → IsSound p → (depth f turns : ℕ) → Runs p (last (entry_run p depth f turns))

@@ -1,6 +1,6 @@
 //! Laws of the meaning of numbered programs. Each is for every sound program and every entry, and so its function does nothing.
 
-ghost use Rattle.meaning_laws.specs.Laws.{CallsGoByNumbers, TargetsTakeTheCall, NoTurnComesBack, GlobalsStay};
+ghost use Rattle.meaning_laws.specs.Laws.{CallsGoByNumbers, TargetsTakeTheCall, NoTurnComesBack, GlobalsStay, EntriesLeaveTheFrame, ObjectsHaveTheirFields, AddressesKeepTheirClass, EntryPointsRun};
 
 /// Where a call goes is what the lookup by numbers says, and the member takes the call.
 pub fn calls_go_by_numbers()
@@ -12,4 +12,16 @@ pub fn calls_go_by_numbers()
 pub fn entries_go_on()
     ensures turns { NoTurnComesBack }
     ensures globals { GlobalsStay }
+{}
+
+/// An entered body leaves `this` and the variables as they were.
+pub fn entries_leave_the_frame()
+    ensures { EntriesLeaveTheFrame }
+{}
+
+/// Objects have the fields of their class, and addresses keep their class.
+pub fn heaps_stay_sound()
+    ensures fields { ObjectsHaveTheirFields }
+    ensures classes { AddressesKeepTheirClass }
+    ensures runs { EntryPointsRun }
 {}
