@@ -5,3 +5,5 @@ pub mod Lookups
 pub mod Turns
 pub mod Frames
 pub mod Heaps
+pub mod Selectors
+pub mod Slots

@@ -1,5 +1,6 @@
 //! Laws of the meaning of numbered programs. Each is for every sound program and every entry, and so its function does nothing.
 
+ghost use Rattle.meaning_laws.specs.BodyLaws.{ExpressionsOpenNone, FirstPartsOpen, StatementsOpen, CallsGoBySite};
 ghost use Rattle.meaning_laws.specs.Laws.{CallsGoByNumbers, TargetsTakeTheCall, NoTurnComesBack, GlobalsStay, EntriesLeaveTheFrame, ObjectsHaveTheirFields, AddressesKeepTheirClass, EntryPointsRun};
 
 /// Where a call goes is what the lookup by numbers says, and the member takes the call.
@@ -24,4 +25,16 @@ pub fn heaps_stay_sound()
     ensures fields { ObjectsHaveTheirFields }
     ensures classes { AddressesKeepTheirClass }
     ensures runs { EntryPointsRun }
+{}
+
+/// How many variables are open behind an expression, a first part and a statement.
+pub fn variables_are_counted()
+    ensures expressions { ExpressionsOpenNone }
+    ensures firsts { FirstPartsOpen }
+    ensures statements { StatementsOpen }
+{}
+
+/// The selector of a call is that of its site.
+pub fn calls_go_by_site()
+    ensures { CallsGoBySite }
 {}
