@@ -119,7 +119,7 @@ module _ (p : Parts) where
   by_keeps names (Some m) heap self args = if_keeps heap _ _ _ (member_keeps names m heap self (slice_index_or args 0 null) (slice_index_or args 1 null))
   by_keeps names None heap self args = tt
 
-  things : Steps p (λ s t. IsHeap p s.heap → IsHeap p t.heap)
+  pub things : Steps p (λ s t. IsHeap p s.heap → IsHeap p t.heap)
   things = record {
     same = λ s h. h;
     on = λ a b c f g h. g (f h);
@@ -138,7 +138,7 @@ module _ (p : Parts) where
   same_front : {A : Type 0} (xs ys : List A) → ys ≡ xs → IsFront xs ys
   same_front xs ys e = subst (IsFront xs) (sym e) (front_refl xs)
 
-  kinds : Steps p (λ s t. IsFront (classes s.heap) (classes t.heap))
+  pub kinds : Steps p (λ s t. IsFront (classes s.heap) (classes t.heap))
   kinds = record {
     same = λ s. front_refl (classes s.heap);
     on = λ a b c. front_trans (classes a.heap) (classes b.heap) (classes c.heap);

@@ -7,3 +7,5 @@ pub mod Frames
 pub mod Heaps
 pub mod Selectors
 pub mod Slots
+pub mod Receivers
+pub mod This

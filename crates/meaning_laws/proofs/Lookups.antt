@@ -30,7 +30,7 @@ further true x h = refl
 further false x h = h
 
 -- the member that the walk finds, and the class where it is found
-walk_finds : (methods : List Method) (kind : SelectorKind) (name : List ℕ) (cs : List ℕ) (m : ℕ) → first_declared methods kind name cs ≡ Some m
+pub walk_finds : (methods : List Method) (kind : SelectorKind) (name : List ℕ) (cs : List ℕ) (m : ℕ) → first_declared methods kind name cs ≡ Some m
     → (d : ℕ) × (k : Method) × (slice_get methods m ≡ Some k) × (is_declared_by d kind name k ≡ true) × IsTrue (list_any (nat_eq d) cs)
 walk_finds methods kind name [] m e = absurd (cc)
 walk_finds methods kind name (d ∷ more) m e =

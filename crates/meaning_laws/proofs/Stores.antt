@@ -44,7 +44,7 @@ module _ {p : Parts} {Q : Store → Store → Type 0} (q : Steps p Q) where
   given_keeps names n v args r (gives heap w) e = q.natives r.store names n v args heap w e
   given_keeps names n v args r (traps t) e = q.same r.store
 
-  steps_keep : Closed p (λ A m. Keeps m)
+  pub steps_keep : Closed p (λ A m. Keeps m)
   steps_keep = record {
     answers = λ a. record { keeps = λ r. q.same r.store };
     stops = λ e. record { keeps = λ r. q.same r.store };

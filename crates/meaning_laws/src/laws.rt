@@ -1,6 +1,7 @@
 //! Laws of the meaning of numbered programs. Each is for every sound program and every entry, and so its function does nothing.
 
 ghost use Rattle.meaning_laws.specs.BodyLaws.{ExpressionsOpenNone, FirstPartsOpen, StatementsOpen, CallsGoBySite};
+ghost use Rattle.meaning_laws.specs.ThisLaws.{CallsMayEnter, SupersMayEnter, ConstructorsMayEnter, NewObjectsMayEnter, ExpressionsLeaveThis, StatementsLeaveThis};
 ghost use Rattle.meaning_laws.specs.Laws.{CallsGoByNumbers, TargetsTakeTheCall, NoTurnComesBack, GlobalsStay, EntriesLeaveTheFrame, ObjectsHaveTheirFields, AddressesKeepTheirClass, EntryPointsRun};
 
 /// Where a call goes is what the lookup by numbers says, and the member takes the call.
@@ -37,4 +38,18 @@ pub fn variables_are_counted()
 /// The selector of a call is that of its site.
 pub fn calls_go_by_site()
     ensures { CallsGoBySite }
+{}
+
+/// What a body enters has for its `this` an object of the class that holds it, or of one below it.
+pub fn this_is_of_its_class()
+    ensures calls { CallsMayEnter }
+    ensures supers { SupersMayEnter }
+    ensures constructors { ConstructorsMayEnter }
+    ensures news { NewObjectsMayEnter }
+{}
+
+/// In a body `this` stays such an object.
+pub fn this_stays_of_its_class()
+    ensures expressions { ExpressionsLeaveThis }
+    ensures statements { StatementsLeaveThis }
 {}
