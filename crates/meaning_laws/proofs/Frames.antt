@@ -1,6 +1,6 @@
 -- An entered body leaves the variables and `this`.
-use Rattle.std.proofs.Common.{◌≡◌, ℕ, zero, suc, List, [], refl}
-use Rattle.std.specs.Prelude.{map, reverse, slice_get, Option, Some, None}
+use Rattle.std.proofs.Common.{ℕ, zero, suc, List, [], refl}
+use Rattle.std.specs.Prelude.{map, reverse, Option, Some, None}
 use Rattle.program.specs.Bodies as c
 use Rattle.program.specs.declared.numbered.Constructor.{Constructor}
 use Rattle.program.specs.Parts.{Parts}
@@ -9,7 +9,7 @@ use Rattle.dart_meaning.specs.Calls as calls
 use Rattle.dart_meaning.specs.Numbered as n
 use Rattle.dart_meaning.specs.Numbered.{Code, the_function, the_method, the_constructor, Coded, coded_at, constructor_of, parameters, enter}
 use Rattle.dart_meaning.specs.Program.{Entry, running, listing}
-use Rattle.dart_meaning.specs.Run.{Run, Store, Result, went, ended, M, and_then, ◌>>=◌, ◌>>◌, pure, stop, stack_overflow, change, spend_from, framed}
+use Rattle.dart_meaning.specs.Run.{Run, Store, Result, went, ended, M, and_then, ◌>>◌, pure, stop, stack_overflow, change, spend_from, framed}
 use Rattle.meaning_laws.specs.Laws.{IfWent, SameFrame, EntriesLeaveTheFrame}
 
 -- what puts them back

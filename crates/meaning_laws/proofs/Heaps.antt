@@ -1,11 +1,10 @@
 -- The heap: each object has the fields of its class, and each address keeps its class.
-use Rattle.std.proofs.Common.{◌≡◌, ℕ, suc, ◌-◌, List, [], ◌∷◌, ◌++◌, length, map, take, refl, sym, ap, ◌∙◌, subst, arith}
-use Rattle.std.specs.Prelude.{Bool, true, false, if◌then◌else◌, nat_eq, All, slice_get, slice_set, slice_index_or, unwrap_or, Option, Some, None, Result, Ok, Err}
+use Rattle.std.proofs.Common.{◌≡◌, ℕ, ◌-◌, List, [], ◌∷◌, ◌++◌, length, map, take, refl, sym, ap, ◌∙◌, subst}
+use Rattle.std.specs.Prelude.{Bool, true, false, if◌then◌else◌, nat_eq, slice_get, slice_set, slice_index_or, unwrap_or, Option, Some, None, Result, Ok, Err}
 use Rattle.std.proofs.lemmas.List.{length-set, length-map, map-append}
 use Rattle.std.proofs.lemmas.List.Elements.{All-nil, All-push, All-set}
 use Rattle.std.proofs.lemmas.Option.{slice_get_within, unwrap_or-slice_get}
 use Rattle.program.specs.Parts.{Parts}
-use Rattle.program.specs.Whole.{IsSound}
 use Rattle.dart_values.specs.declared.fault.Trap.{Trap}
 use Rattle.dart_values.specs.declared.member.Member.{Member}
 use Rattle.dart_values.specs.declared.member.Member.TheVariants as of
@@ -14,16 +13,15 @@ use Rattle.dart_values.specs.declared.member.ObjectMember.TheVariants as o
 use Rattle.dart_values.specs.declared.member.ListMember.{ListMember}
 use Rattle.dart_values.specs.declared.member.ListMember.TheVariants as l
 use Rattle.dart_values.specs.Members.{members}
-use Rattle.dart_values.specs.Natives.{native, native_by, member_gives, object_member, list_member, list_items, with_items, index_in, without_last, thing_at}
+use Rattle.dart_values.specs.Natives.{native_by, member_gives, object_member, list_member, with_items, index_in}
 use Rattle.dart_values.specs.Reads.{with_field, put_field}
 use Rattle.dart_values.specs.Values as v
 use Rattle.dart_values.specs.Values.{Text, Value, null, Heap, Thing, object, list, invocation, classes, thing_class, Given, gives, traps, kept, given_from}
 use Rattle.dart_meaning.specs.Laws.{IsFront}
 use Rattle.dart_meaning.specs.Entry.{start}
 use Rattle.dart_meaning.specs.Literals.{literal}
-use Rattle.dart_meaning.specs.Numbered.{fields, the_function}
+use Rattle.dart_meaning.specs.Numbered.{the_function}
 use Rattle.dart_meaning.specs.Program.{running}
-use Rattle.dart_meaning.specs.Run.{Store}
 use Rattle.dart_meaning.proofs.Closed.{front_refl, front_more, classes-with_field}
 use Rattle.dart_meaning.proofs.Counted.{LeavesClasses, native_leaves}
 use Rattle.dart_meaning.proofs.Steady.{front_trans}

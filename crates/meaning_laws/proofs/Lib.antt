@@ -9,3 +9,4 @@ pub mod Selectors
 pub mod Slots
 pub mod Receivers
 pub mod This
+pub mod Follows

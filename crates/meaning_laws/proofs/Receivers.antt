@@ -1,6 +1,6 @@
 -- `this` is of the class that holds the body, or of one below it.
-use Rattle.std.proofs.Common.{◌≡◌, ℕ, zero, suc, ◌+◌, ◌-◌, ◌<◌, ◌≤◌, List, [], ◌∷◌, ◌++◌, length, refl, sym, ap, ◌∙◌, subst, arith}
-use Rattle.std.specs.Prelude.{Bool, true, false, ◌||◌, nat_eq, nat_le, not, IsTrue, map, slice_get, unwrap_or, Option, Some, None}
+use Rattle.std.proofs.Common.{◌≡◌, ℕ, zero, suc, ◌≤◌, List, [], ◌∷◌, ◌++◌, length, refl, sym, ap, ◌∙◌, subst, arith}
+use Rattle.std.specs.Prelude.{Bool, true, false, ◌||◌, nat_eq, not, IsTrue, slice_get, unwrap_or, Option, Some, None}
 use Rattle.std.specs.Option.{option_map, option_and_then}
 use Rattle.std.specs.List.{list_any}
 use Rattle.std.proofs.lemmas.Bool.Decides.{nat_tests}
@@ -9,22 +9,19 @@ use Rattle.program.specs.declared.numbered.Class.{Class}
 use Rattle.program.specs.declared.numbered.Method.{Method}
 use Rattle.program.specs.declared.numbered.MethodBody.{MethodBody}
 use Rattle.program.specs.declared.numbered.MethodBody.TheVariants as does
-use Rattle.program.specs.declared.numbered.Selector.{Selector}
 use Rattle.program.specs.BuiltIn.{is_open}
-use Rattle.program.specs.Hierarchy.{chain, above_chain, parent_in, is_above}
-use Rattle.program.specs.Lookup.{found_by}
+use Rattle.program.specs.Hierarchy.{above_chain, parent_in, is_above}
 use Rattle.program.specs.Parts.{Parts, parents}
 use Rattle.program.specs.Sound.{AboveAccepts}
 use Rattle.program.specs.Whole.{IsSound, IsMethod, SoundMethod, SoundCode, IsClass}
 use Rattle.program.proofs.Always.{kind_and_name}
-use Rattle.program.proofs.Intervals.{Above, chain_step, above_self, above_up, above_trans, above_le}
+use Rattle.program.proofs.Intervals.{Above, chain_step, above_self, above_up, above_trans}
 use Rattle.dart_values.specs.Values as v
 use Rattle.dart_values.specs.Values.{Value, Heap, Thing, object, classes, thing_class, class_of, class_of_thing}
 use Rattle.dart_meaning.specs.Classes.{if_so}
-use Rattle.dart_meaning.specs.Numbered.{Code, the_function, the_method, the_constructor, method_at, method_found, constructor_at, class_above, fields}
-use Rattle.dart_meaning.specs.Program.{Found, built_in, reads, writes, coded}
-use Rattle.meaning_laws.specs.Laws.{Answers}
-use Rattle.meaning_laws.specs.ThisLaws.{IsOf, holder, MayEnter, CallsMayEnter, SupersMayEnter, ConstructorsMayEnter, NewObjectsMayEnter}
+use Rattle.dart_meaning.specs.Numbered.{Code, the_method, the_constructor, method_at, method_found, constructor_at, fields}
+use Rattle.dart_meaning.specs.Program.{Found, coded}
+use Rattle.meaning_laws.specs.ThisLaws.{IsOf, MayEnter, CallsMayEnter, SupersMayEnter, ConstructorsMayEnter, NewObjectsMayEnter}
 use Rattle.meaning_laws.proofs.Lookups.{walk_finds, found_takes}
 
 -- the code of a member that is one
@@ -72,7 +69,7 @@ module _ (p : Parts) (sound : IsSound p) where
       let same : walk.1 ≡ k = ap (λ o. unwrap_or o k) (sym walk.2 ∙ there) in
       let owner : k.owner.0 ≡ walk.0 = ap (λ (m : Method). m.owner.0) (sym same) ∙ (kind_and_name walk.0 k.role k.name walk.1 walk.3).0 in
       let here : Above (parents p.classes) walk.0 class =
-          subst (λ xs. IsTrue (list_any (nat_eq walk.0) xs)) (sym (chain_step (parents p.classes) sound.order class)) (behind (nat_eq walk.0 class) _ walk.4) in
+      subst (λ xs. IsTrue (list_any (nat_eq walk.0) xs)) (sym (chain_step (parents p.classes) sound.order class)) (behind (nat_eq walk.0 class) _ walk.4) in
       member_enters p sound m k heap me code there
       (above_trans (parents p.classes) sound.order k.owner.0 class (class_of heap me) (subst (λ d. Above (parents p.classes) d class) (sym owner) here) h.1) e
 

@@ -1,14 +1,9 @@
 -- The selector of a call is that of its site.
-use Rattle.std.proofs.Common.{◌≡◌, ℕ, zero, suc, ◌+◌, ◌-◌, ◌<◌, ◌≤◌, List, [], ◌∷◌, length, refl, sym, ap, ◌∙◌, subst, arith}
-use Rattle.std.specs.Prelude.{Bool, ◌&&◌, ◌||◌, slice_get, unwrap_or, Option, Some, None, codes}
-use Rattle.std.specs.Option.{option_and_then}
-use Rattle.std.proofs.lemmas.Option.{slice_get_past}
+use Rattle.std.proofs.Common.{◌≡◌, ℕ, ◌-◌, ◌≤◌, List, [], ◌∷◌, length, sym, ap, arith}
+use Rattle.std.specs.Prelude.{◌&&◌, ◌||◌, unwrap_or, Option, Some, None, codes}
 use Rattle.program.specs.declared.numbered.Selector.{Selector}
 use Rattle.program.specs.declared.numbered.SelectorKind.{SelectorKind}
 use Rattle.program.specs.declared.numbered.SelectorKind.TheVariants.{Call}
-use Rattle.program.specs.declared.numbered.Site.{Site}
-use Rattle.program.specs.declared.numbered.SitePlace.{SitePlace}
-use Rattle.program.specs.declared.numbered.SitePlace.TheVariants as place
 use Rattle.program.specs.Parts.{Parts, selector_at}
 use Rattle.program.specs.Sound.{Is}
 use Rattle.program.specs.Whole.{IsSound}

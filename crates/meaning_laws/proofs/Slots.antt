@@ -1,13 +1,13 @@
 -- How many variables are open.
-use Rattle.std.proofs.Common.{◌≡◌, ℕ, zero, suc, ◌+◌, ◌-◌, ◌≤◌, List, [], ◌∷◌, length, refl, sym, ap, ◌∙◌, subst, arith}
+use Rattle.std.proofs.Common.{◌≡◌, ℕ, zero, suc, ◌-◌, ◌≤◌, List, length, refl, sym, ap, ◌∙◌, subst, arith}
 use Rattle.std.proofs.Math.Nat.{le_trans, le_refl}
 use Rattle.std.proofs.lemmas.List.{length-set, length-drop}
-use Rattle.std.specs.Prelude.{Bool, true, false, drop, slice_set, Option, Some, None}
+use Rattle.std.specs.Prelude.{Bool, true, drop, Option}
 use Rattle.program.specs.Bodies as c
 use Rattle.program.specs.Bodies.{Exp, First, Sta, Stas}
 use Rattle.program.specs.Parts.{Parts}
-use Rattle.program.specs.Sound.{Sound, SoundFirst, SoundSta, SoundStas, after, after_first}
-use Rattle.dart_values.specs.Values.{Text, Value, Heap, Given, gives, traps}
+use Rattle.program.specs.Sound.{SoundFirst, SoundSta, SoundStas, after, after_first}
+use Rattle.dart_values.specs.Values.{Value, Given, gives, traps}
 use Rattle.dart_values.specs.Natives.{native}
 use Rattle.dart_meaning.specs.Calls.{given}
 use Rattle.dart_meaning.specs.Numbered as n

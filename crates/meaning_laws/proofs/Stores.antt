@@ -1,5 +1,5 @@
 -- A relation of a store and a later one that holds of each step holds of all that an entry does.
-use Rattle.std.proofs.Common.{◌≡◌, ℕ, zero, suc, List, [], ◌∷◌, ◌++◌, refl, sym, ap}
+use Rattle.std.proofs.Common.{◌≡◌, ℕ, zero, suc, List, [], ◌∷◌, ◌++◌, refl}
 use Rattle.std.specs.Prelude.{slice_set}
 use Rattle.program.specs.Parts.{Parts}
 use Rattle.program.specs.Whole.{IsSound}

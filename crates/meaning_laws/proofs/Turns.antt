@@ -1,5 +1,5 @@
 -- Turns, what is told, and the number of top-level variables.
-use Rattle.std.proofs.Common.{◌≡◌, ℕ, suc, ◌≤◌, List, [], ◌∷◌, ◌++◌, refl, sym, ◌∙◌, length, arith}
+use Rattle.std.proofs.Common.{◌≡◌, List, [], ◌∷◌, refl, ◌∙◌, length, arith}
 use Rattle.std.proofs.Math.Nat.{le_trans, le_refl}
 use Rattle.std.proofs.lemmas.List.{length-set}
 use Rattle.program.specs.Parts.{Parts}
@@ -22,7 +22,7 @@ further a b c h k = record {
   tests = front_trans a.tests b.tests c.tests h.tests k.tests;
 }
 
-goes : (p : Parts) → Steps p Goes
+pub goes : (p : Parts) → Steps p Goes
 goes p = record {
   same = λ s. still s s.heap s.globals;
   on = further;
@@ -44,7 +44,7 @@ no_turn_comes_back p sound depth x r = entry_keeps (goes p) sound depth x r
 abbrev AsManyGlobals : Store → Store → Type 0
 AsManyGlobals s t = length t.globals ≡ length s.globals
 
-globals_kept : (p : Parts) → Steps p AsManyGlobals
+pub globals_kept : (p : Parts) → Steps p AsManyGlobals
 globals_kept p = record {
   same = λ s. refl;
   on = λ a b c h k. k ∙ h;

@@ -1,18 +1,19 @@
 -- What is true of the expressions and statements of every sound numbered program.
-use Rattle.std.specs.Prelude.{◌≡◌, ℕ, ◌-◌, Bool, ◌&&◌, ◌||◌, List, [], ◌∷◌, length, Option, Some, codes}
+use Rattle.std.specs.Prelude.{◌≡◌, ℕ, ◌-◌, Bool, ◌&&◌, ◌||◌, [], ◌∷◌, length, Option, codes}
 use Rattle.program.specs.declared.body.OperatorCall.{OperatorCall}
 use Rattle.program.specs.declared.numbered.SelectorKind.TheVariants.{Call}
 use Rattle.program.specs.Bodies.{Exp, First, Sta}
 use Rattle.program.specs.Parts.{Parts, selector_at}
 use Rattle.program.specs.Sound.{Is, Sound, SoundFirst, SoundSta, after, after_first, binary_name}
 use Rattle.program.specs.Whole.{IsSound}
-use Rattle.dart_values.specs.Values.{Text, Value, bool}
+use Rattle.dart_values.specs.Values.{classes, Text, Value}
 use Rattle.dart_meaning.specs.Calls as calls
 use Rattle.dart_meaning.specs.Calls.{is_null}
+use Rattle.dart_meaning.specs.Laws.{IsFront}
 use Rattle.dart_meaning.specs.Numbered.{Code, world, send, value, first, doing, enter}
 use Rattle.dart_meaning.specs.Program.{Entry}
-use Rattle.dart_meaning.specs.Run.{Run, M, ◌>>=◌, pure, choose, need_bool, need_text}
-use Rattle.meaning_laws.specs.Laws.{IfWent}
+use Rattle.dart_meaning.specs.Run.{Run, Store, M, ◌>>=◌, pure, choose, need_bool, need_text}
+use Rattle.meaning_laws.specs.Laws.{last, Goes, IsHeap, IfWent}
 
 -- ---- variables
 
@@ -40,6 +41,27 @@ FirstPartsOpen = (p : Parts) (here : Option ℕ) (slots : ℕ) (x : First) → S
 abbrev pub StatementsOpen : Type 0
 StatementsOpen = (p : Parts) (here : Option ℕ) (answers loops : Bool) (slots : ℕ) (x : Sta) → SoundSta p here answers slots loops x →
     (depth : ℕ) (r : Run Value) → IfWent (doing p (enter p depth) x r) (Opens (after (length r.vars) x) r)
+
+-- ---- the store
+
+-- What an expression, a statement or an entry leads to: no turn came back, what was told is still told, the top-level variables are as many, an address keeps its class, and objects have their fields.
+pub record Follows (p : Parts) (s t : Store) : Type 0 where
+  pub goes : Goes s t
+  pub globals : length t.globals ≡ length s.globals
+  pub classes : IsFront (classes s.heap) (classes t.heap)
+  pub heap : IsHeap p s.heap → IsHeap p t.heap
+
+abbrev pub EntriesFollow : Type 0
+EntriesFollow = (p : Parts) → IsSound p → (depth : ℕ) (x : Entry Code) (r : Run Value) →
+    Follows p r.store (last (enter p depth x r)).store
+
+abbrev pub ExpressionsFollow : Type 0
+ExpressionsFollow = (p : Parts) → IsSound p → (here : Option ℕ) (slots : ℕ) (e : Exp) → Sound p here slots e →
+    (depth : ℕ) (r : Run Value) → Follows p r.store (last (value p (enter p depth) e r)).store
+
+abbrev pub StatementsFollow : Type 0
+StatementsFollow = (p : Parts) → IsSound p → (here : Option ℕ) (answers loops : Bool) (slots : ℕ) (x : Sta) → SoundSta p here answers slots loops x →
+    (depth : ℕ) (r : Run Value) → Follows p r.store (last (doing p (enter p depth) x r)).store
 
 -- ---- selectors
 

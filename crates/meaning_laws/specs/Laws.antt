@@ -1,5 +1,5 @@
 -- What is true of every sound numbered program: of its calls, and of all that an entry of it does.
-use Rattle.std.specs.Prelude.{◌≡◌, ℕ, ◌<◌, ◌≤◌, IsTrue, List, [], length, slice_get, Option, Some, None, option_map, All}
+use Rattle.std.specs.Prelude.{◌≡◌, ℕ, ◌<◌, ◌≤◌, IsTrue, length, slice_get, Option, Some, option_map, All}
 use Rattle.program.specs.declared.numbered.Method.{Method}
 use Rattle.program.specs.declared.numbered.Selector.{Selector}
 use Rattle.program.specs.declared.numbered.Target.TheVariants as target
@@ -10,7 +10,7 @@ use Rattle.program.specs.Lookup as numbers
 use Rattle.program.specs.Parts.{Parts, parents}
 use Rattle.program.specs.Sound.{Accepts}
 use Rattle.program.specs.Whole.{IsSound}
-use Rattle.dart_values.specs.Values.{Value, Heap, Thing, object, list, invocation, classes}
+use Rattle.dart_values.specs.Values.{Value, Heap, Thing, object, classes}
 use Rattle.dart_meaning.specs.Laws.{IsFront}
 use Rattle.dart_meaning.specs.Numbered.{Code, of_numbered, method_at, fields, enter, entry_run}
 use Rattle.dart_meaning.specs.Program.{Target, member, missing, resolve, Entry, no_such_method}

@@ -1,5 +1,5 @@
 -- `this` in a body is an object of the class that holds the body, or of one below it.
-use Rattle.std.specs.Prelude.{◌≡◌, ℕ, ◌≤◌, Bool, List, [], ◌∷◌, ◌++◌, length, IsTrue, slice_get, Option, Some, None}
+use Rattle.std.specs.Prelude.{◌≡◌, ℕ, ◌≤◌, Bool, [], ◌∷◌, ◌++◌, length, IsTrue, slice_get, Option, Some, None}
 use Rattle.std.specs.Option.{option_map}
 use Rattle.program.specs.declared.numbered.Method.{Method}
 use Rattle.program.specs.declared.numbered.Selector.{Selector}

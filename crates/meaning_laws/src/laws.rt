@@ -1,6 +1,6 @@
 //! Laws of the meaning of numbered programs. Each is for every sound program and every entry, and so its function does nothing.
 
-ghost use Rattle.meaning_laws.specs.BodyLaws.{ExpressionsOpenNone, FirstPartsOpen, StatementsOpen, CallsGoBySite};
+ghost use Rattle.meaning_laws.specs.BodyLaws.{EntriesFollow, ExpressionsFollow, StatementsFollow, ExpressionsOpenNone, FirstPartsOpen, StatementsOpen, CallsGoBySite};
 ghost use Rattle.meaning_laws.specs.ThisLaws.{CallsMayEnter, SupersMayEnter, ConstructorsMayEnter, NewObjectsMayEnter, ExpressionsLeaveThis, StatementsLeaveThis};
 ghost use Rattle.meaning_laws.specs.Laws.{CallsGoByNumbers, TargetsTakeTheCall, NoTurnComesBack, GlobalsStay, EntriesLeaveTheFrame, ObjectsHaveTheirFields, AddressesKeepTheirClass, EntryPointsRun};
 
@@ -26,6 +26,13 @@ pub fn heaps_stay_sound()
     ensures fields { ObjectsHaveTheirFields }
     ensures classes { AddressesKeepTheirClass }
     ensures runs { EntryPointsRun }
+{}
+
+/// The same of all that an entry, an expression and a statement lead to, together.
+pub fn bodies_go_on()
+    ensures entries { EntriesFollow }
+    ensures expressions { ExpressionsFollow }
+    ensures statements { StatementsFollow }
 {}
 
 /// How many variables are open behind an expression, a first part and a statement.
