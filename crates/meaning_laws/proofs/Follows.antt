@@ -5,7 +5,8 @@ use Rattle.program.specs.Whole.{IsSound}
 use Rattle.dart_meaning.specs.Numbered.{Code, enter}
 use Rattle.dart_meaning.specs.Program.{Entry}
 use Rattle.meaning_laws.specs.BodyLaws.{Follows, EntriesFollow, ExpressionsFollow, StatementsFollow}
-use Rattle.meaning_laws.proofs.ClosedBodies.{value, doing, enter_holds}
+use Rattle.meaning_laws.proofs.ClosedBodies.{value, doing}
+use Rattle.meaning_laws.proofs.ClosedEntries.{calls_of, enter_holds}
 use Rattle.meaning_laws.proofs.Heaps.{things, kinds}
 use Rattle.meaning_laws.proofs.Stores.{Steps, Keeps, steps_keep, frames_keep}
 use Rattle.meaning_laws.proofs.Turns.{goes, globals_kept}
@@ -42,8 +43,8 @@ pub entries_follow : EntriesFollow
 entries_follow p sound depth x r = (entry_follows p sound depth x).keeps r
 
 pub expressions_follow : ExpressionsFollow
-expressions_follow p sound here slots e ok depth r = (value (steps_keep (follows p)) (enter p depth) (entry_follows p sound depth) here e slots ok).keeps r
+expressions_follow p sound here slots e ok depth r = (value (calls_of (steps_keep (follows p)) (enter p depth) (entry_follows p sound depth) here) e slots ok).keeps r
 
 pub statements_follow : StatementsFollow
 statements_follow p sound here answers loops slots x ok depth r =
-    (doing (frames_keep (follows p)) (enter p depth) (entry_follows p sound depth) here answers x slots loops ok).keeps r
+    (doing (calls_of (steps_keep (follows p)) (enter p depth) (entry_follows p sound depth) here) (frames_keep (follows p)).varies answers x slots loops ok).keeps r

@@ -1,5 +1,6 @@
 pub mod Closed
 pub mod ClosedBodies
+pub mod ClosedEntries
 pub mod Stores
 pub mod Lookups
 pub mod Turns

@@ -18,7 +18,8 @@ use Rattle.meaning_laws.specs.Laws.{IfWent, SameFrame}
 use Rattle.meaning_laws.specs.BodyLaws.{SameCount, Opens, ExpressionsOpenNone, FirstPartsOpen, StatementsOpen}
 use Rattle.meaning_laws.proofs.Closed.{Closed}
 use Rattle.meaning_laws.proofs.Closed as h
-use Rattle.meaning_laws.proofs.ClosedBodies.{value, values, test, returns}
+use Rattle.meaning_laws.proofs.ClosedBodies.{ClosedCalls, value, values, test, returns}
+use Rattle.meaning_laws.proofs.ClosedEntries.{calls_of}
 use Rattle.meaning_laws.proofs.Frames.{entries_leave_the_frame}
 
 -- ---- expressions
@@ -71,7 +72,7 @@ pub entries : (p : Parts) (depth : ℕ) (x : Entry Code) → Leaves (enter p dep
 entries p depth x = record { leaves = λ r. of_frame r (enter p depth x r) (entries_leave_the_frame p depth x r) }
 
 pub expressions_open_none : ExpressionsOpenNone
-expressions_open_none p here slots e ok depth r = (value (leaves p) (enter p depth) (entries p depth) here e slots ok).leaves r
+expressions_open_none p here slots e ok depth r = (value (calls_of (leaves p) (enter p depth) (entries p depth) here) e slots ok).leaves r
 
 -- ---- statements
 
@@ -161,31 +162,34 @@ module _ (p : Parts) (enter : Entry Code → M Value Value) (entries : (x : Entr
   abbrev s : Closed p (λ A m. Leaves m)
   s = leaves p
 
+  k : ClosedCalls p here (λ A m. Leaves (m enter))
+  k = calls_of s enter entries here
+
   first_opens : (x : First) (slots : ℕ) → SoundFirst p here slots x → Opening (λ k. after_first k x) (n.first p enter x)
   first_opens c.no_first slots ok = opening (s.answers tt)
-  first_opens (c.first_declares e) slots ok = opens_bind (value s enter entries here e slots ok) declared
-  first_opens (c.first_runs e) slots ok = opening (h.then_holds s (value s enter entries here e slots ok) (s.answers tt))
+  first_opens (c.first_declares e) slots ok = opens_bind (value k e slots ok) declared
+  first_opens (c.first_runs e) slots ok = opening (h.then_of s (value k e slots ok) (s.answers tt))
 
   module _ (answering : Bool) where
     mutual
       doing_opens : (x : Sta) (slots : ℕ) (loops : Bool) → SoundSta p here answering slots loops x → Opening (λ k. after k x) (n.doing p enter x)
       doing_opens (c.block all) slots loops ok = opening (scoped_leaves (all_grow all slots loops ok))
-      doing_opens (c.declare e) slots loops ok = answers onward (opens_bind (value s enter entries here e slots ok) declared)
-      doing_opens (c.run e) slots loops ok = opening (h.then_holds s (value s enter entries here e slots ok) (s.answers onward))
+      doing_opens (c.declare e) slots loops ok = answers onward (opens_bind (value k e slots ok) declared)
+      doing_opens (c.run e) slots loops ok = opening (h.then_of s (value k e slots ok) (s.answers onward))
       doing_opens c.empty slots loops ok = opening (s.answers onward)
       doing_opens (c.when e x) slots loops ok =
-          opening (s.binds (test s enter entries here e slots ok.0) (λ go. h.choose_holds s go (scoped_leaves (grown (sta_more x) (doing_opens x slots loops ok.1))) (s.answers onward)))
+          opening (s.binds (test k e slots ok.0) (λ go. h.choose_of s go (scoped_leaves (grown (sta_more x) (doing_opens x slots loops ok.1))) (s.answers onward)))
       doing_opens (c.when_else e x y) slots loops ok =
-          opening (s.binds (test s enter entries here e slots ok.0) (λ go. h.choose_holds s go (scoped_leaves (grown (sta_more x) (doing_opens x slots loops ok.1))) (scoped_leaves (grown (sta_more y) (doing_opens y slots loops ok.2)))))
-      doing_opens (c.while e x) slots loops ok = opening (h.while_holds s (test s enter entries here e slots ok.0) (scoped_leaves (grown (sta_more x) (doing_opens x slots true ok.1))) (s.answers tt))
-      doing_opens (c.do_while x e) slots loops ok = opening (h.do_holds s (scoped_leaves (grown (sta_more x) (doing_opens x slots true ok.0))) (test s enter entries here e slots ok.1))
+          opening (s.binds (test k e slots ok.0) (λ go. h.choose_of s go (scoped_leaves (grown (sta_more x) (doing_opens x slots loops ok.1))) (scoped_leaves (grown (sta_more y) (doing_opens y slots loops ok.2)))))
+      doing_opens (c.while e x) slots loops ok = opening (h.while_of s (test k e slots ok.0) (scoped_leaves (grown (sta_more x) (doing_opens x slots true ok.1))) (s.answers tt))
+      doing_opens (c.do_while x e) slots loops ok = opening (h.do_of s (scoped_leaves (grown (sta_more x) (doing_opens x slots true ok.0))) (test k e slots ok.1))
       doing_opens (c.for start e last x) slots loops ok =
           opening (scoped_leaves (grows_bind (grown (first_more start) (first_opens start slots ok.0)) (λ _. left
-          (h.while_holds s (test s enter entries here e (after_first slots start) ok.1) (scoped_leaves (grown (sta_more x) (doing_opens x (after_first slots start) true ok.3)))
-          (h.then_holds s (values s enter entries here last (after_first slots start) ok.2) (s.answers tt))))))
+          (h.while_of s (test k e (after_first slots start) ok.1) (scoped_leaves (grown (sta_more x) (doing_opens x (after_first slots start) true ok.3)))
+          (h.then_of s (values k last (after_first slots start) ok.2) (s.answers tt))))))
       doing_opens c.break slots loops ok = opening (s.answers broke)
       doing_opens c.continue slots loops ok = opening (s.answers continued)
-      doing_opens (c.return e) slots loops ok = opening (s.binds (returns s enter entries here e answering slots ok) (λ v. s.answers (returned v)))
+      doing_opens (c.return e) slots loops ok = opening (s.binds (returns k e answering slots ok) (λ v. s.answers (returned v)))
 
       all_grow : (xs : Stas) (slots : ℕ) (loops : Bool) → SoundStas p here answering slots loops xs → Grows (n.doing_all p enter xs)
       all_grow c.end_of slots loops ok = left (s.answers onward)

@@ -12,7 +12,7 @@ use Rattle.dart_meaning.specs.Program.{Entry}
 use Rattle.dart_meaning.specs.Run.{Run, Store, Result, went, ended, M, and_then, spend_from}
 use Rattle.meaning_laws.specs.Laws.{last}
 use Rattle.meaning_laws.proofs.Closed.{Closed, ClosedFrames, IsNew}
-use Rattle.meaning_laws.proofs.ClosedBodies.{enter_holds}
+use Rattle.meaning_laws.proofs.ClosedEntries.{enter_holds}
 
 -- Q holds of each step of the store, and of steps one behind another.
 pub record Steps (p : Parts) (Q : Store → Store → Type 0) : Type 0 where

@@ -13,7 +13,8 @@ use Rattle.dart_meaning.specs.Run.{Run, Result, went, ended}
 use Rattle.meaning_laws.specs.Laws.{last, IfWent}
 use Rattle.meaning_laws.specs.BodyLaws.{SameCount, Opens}
 use Rattle.meaning_laws.specs.ThisLaws.{IsOf, ExpressionsLeaveThis, StatementsLeaveThis}
-use Rattle.meaning_laws.proofs.ClosedBodies.{value, doing, enter_holds}
+use Rattle.meaning_laws.proofs.ClosedBodies.{value, doing}
+use Rattle.meaning_laws.proofs.ClosedEntries.{calls_of, enter_holds}
 use Rattle.meaning_laws.proofs.Stores.{Keeps, steps_keep, frames_keep}
 use Rattle.meaning_laws.proofs.Heaps.{kinds}
 use Rattle.meaning_laws.proofs.Slots.{expressions_open_none, statements_open}
@@ -63,9 +64,9 @@ this_open count r (ended e s) h = tt
 pub expressions_leave_this : ExpressionsLeaveThis
 expressions_leave_this p sound here slots e ok depth r h =
     stays p sound here r _ (this_of r _ (expressions_open_none p here slots e ok depth r))
-    ((value (steps_keep (kinds p)) (enter p depth) (grows p sound depth) here e slots ok).keeps r) h
+    ((value (calls_of (steps_keep (kinds p)) (enter p depth) (grows p sound depth) here) e slots ok).keeps r) h
 
 pub statements_leave_this : StatementsLeaveThis
 statements_leave_this p sound here answers loops slots x ok depth r h =
     stays p sound here r _ (this_open _ r _ (statements_open p here answers loops slots x ok depth r))
-    ((doing (frames_keep (kinds p)) (enter p depth) (grows p sound depth) here answers x slots loops ok).keeps r) h
+    ((doing (calls_of (steps_keep (kinds p)) (enter p depth) (grows p sound depth) here) (frames_keep (kinds p)).varies answers x slots loops ok).keeps r) h
