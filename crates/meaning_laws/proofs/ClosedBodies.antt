@@ -1,28 +1,21 @@
 -- What holds of each step, and of steps put together, holds of the expressions and statements of a sound numbered program.
-use Rattle.std.proofs.Common.{◌≡◌, ℕ, zero, suc, ◌<◌, subst, List, [], ◌∷◌, ◌++◌, refl}
-use Rattle.std.specs.Prelude.{◌-◌, ◌+◌, Bool, true, false, not, reverse, length, map, slice_get, drop, IsTrue, Option, Some, None, pos}
-use Rattle.std.specs.Option.{option_map, option_and_then}
+use Rattle.std.proofs.Common.{◌≡◌, ℕ, ◌<◌, subst, List, [], ◌∷◌, ◌++◌, refl}
+use Rattle.std.specs.Prelude.{◌-◌, Bool, true, false, not, length, map, slice_get, drop, IsTrue, Option, Some, None, pos}
 use Rattle.std.proofs.lemmas.Option.{slice_get_within}
 use Rattle.program.specs.declared.body.OperatorCall.{OperatorCall}
 use Rattle.program.specs.declared.body.Body.{Body}
 use Rattle.program.specs.declared.body.Body.TheVariants as body
 use Rattle.program.specs.declared.numbered.Class.{Class}
-use Rattle.program.specs.declared.numbered.Constructor.{Constructor}
-use Rattle.program.specs.declared.numbered.Function.{Function}
-use Rattle.program.specs.declared.numbered.Method.{Method}
-use Rattle.program.specs.declared.numbered.MethodBody.{MethodBody}
-use Rattle.program.specs.declared.numbered.MethodBody.TheVariants as does
 use Rattle.program.specs.Bodies as c
 use Rattle.program.specs.Bodies.{Exp, Exps, Pieces, Calls, Links, Target, Update, First, Sta, Stas, count}
 use Rattle.program.specs.BuiltIn.{is_open}
 use Rattle.program.specs.declared.numbered.Selector.{Selector}
 use Rattle.program.specs.Parts.{Parts}
 use Rattle.program.specs.Sound.{AboveAccepts, MakeAccepts, Sound, AllSound, SoundPieces, SoundCalls, SoundLinks, SoundTarget, SoundUpdate, SoundFirst, Returns, SoundSta, SoundStas, SoundBody, after, after_first}
-use Rattle.program.specs.Whole.{IsSound, IsClass, HasSoundConstructor, IsMethod, SoundCode, IsFunction}
 use Rattle.dart_values.specs.Values.{Value, null, bool, num, text, list}
 use Rattle.dart_meaning.specs.Literals.{literal}
-use Rattle.dart_meaning.specs.Program.{Found, Entry, running, listing}
-use Rattle.dart_meaning.specs.Run.{Result, went, ended, and_then, M, ◌>>=◌, pure, change, choose, stack_overflow, declare, scoped, framed, onward, broke, continued, returned, answer}
+use Rattle.dart_meaning.specs.Program.{running}
+use Rattle.dart_meaning.specs.Run.{Result, went, ended, and_then, M, ◌>>=◌, pure, change, choose, declare, scoped, onward, broke, continued, returned, answer}
 use Rattle.dart_meaning.specs.Calls as calls
 use Rattle.dart_meaning.specs.Numbered as n
 use Rattle.dart_meaning.specs.Numbered.{Code, the_function, the_method, the_constructor, of_numbered, method_at, constructor_at, constructor_of, class_above, with_code, function_coded, Coded, coded_at, parameters, Destination, at_local, at_global, at_super, at_member, at_element, world, enter}

@@ -1,11 +1,7 @@
 -- What holds of each step, and of steps put together, holds of all that an entry of a sound numbered program does.
-use Rattle.std.proofs.Common.{◌≡◌, ℕ, zero, suc, ◌<◌, subst, List, [], ◌∷◌, ◌++◌, refl}
-use Rattle.std.specs.Prelude.{◌-◌, ◌+◌, Bool, true, false, not, reverse, length, map, slice_get, drop, IsTrue, Option, Some, None, pos}
+use Rattle.std.proofs.Common.{ℕ, zero, suc, List, [], ◌∷◌}
+use Rattle.std.specs.Prelude.{◌+◌, false, reverse, length, map, slice_get, Option, Some, None}
 use Rattle.std.specs.Option.{option_map, option_and_then}
-use Rattle.std.proofs.lemmas.Option.{slice_get_within}
-use Rattle.program.specs.declared.body.OperatorCall.{OperatorCall}
-use Rattle.program.specs.declared.body.Body.{Body}
-use Rattle.program.specs.declared.body.Body.TheVariants as body
 use Rattle.program.specs.declared.numbered.Class.{Class}
 use Rattle.program.specs.declared.numbered.Constructor.{Constructor}
 use Rattle.program.specs.declared.numbered.Function.{Function}
@@ -14,22 +10,23 @@ use Rattle.program.specs.declared.numbered.MethodBody.{MethodBody}
 use Rattle.program.specs.declared.numbered.MethodBody.TheVariants as does
 use Rattle.program.specs.Bodies as c
 use Rattle.program.specs.Bodies.{Exp, Exps, Pieces, Calls, Links, Target, Update, First, Sta, Stas, count}
-use Rattle.program.specs.BuiltIn.{is_open}
-use Rattle.program.specs.declared.numbered.Selector.{Selector}
 use Rattle.program.specs.Parts.{Parts}
-use Rattle.program.specs.Sound.{AboveAccepts, MakeAccepts, Sound, AllSound, SoundPieces, SoundCalls, SoundLinks, SoundTarget, SoundUpdate, SoundFirst, Returns, SoundSta, SoundStas, SoundBody, after, after_first}
+use Rattle.program.specs.Sound.{SoundBody}
 use Rattle.program.specs.Whole.{IsSound, IsClass, HasSoundConstructor, IsMethod, SoundCode, IsFunction}
-use Rattle.dart_values.specs.Values.{Value, null, bool, num, text, list}
-use Rattle.dart_meaning.specs.Literals.{literal}
+use Rattle.dart_values.specs.Values.{Value, null}
 use Rattle.dart_meaning.specs.Program.{Found, Entry, running, listing}
-use Rattle.dart_meaning.specs.Run.{Result, went, ended, and_then, M, ◌>>=◌, pure, change, choose, stack_overflow, declare, scoped, framed, onward, broke, continued, returned, answer}
-use Rattle.dart_meaning.specs.Calls as calls
+use Rattle.dart_meaning.specs.Run.{M, stack_overflow, framed, onward}
 use Rattle.dart_meaning.specs.Numbered as n
 use Rattle.dart_meaning.specs.Numbered.{Code, the_function, the_method, the_constructor, of_numbered, method_at, constructor_at, constructor_of, class_above, with_code, function_coded, Coded, coded_at, parameters, Destination, at_local, at_global, at_super, at_member, at_element, world, enter}
 use Rattle.meaning_laws.proofs.Closed.{Closed, ClosedFrames, at_one}
 use Rattle.meaning_laws.proofs.Closed as h
 use Rattle.meaning_laws.proofs.ClosedBodies.{ClosedCalls}
 use Rattle.meaning_laws.proofs.ClosedBodies as bodies
+
+-- what is known of a class's constructor
+pub written : (p : Parts) (class : ℕ) (o : Option Class) → IsClass p class o → HasSoundConstructor p class (option_and_then (λ (k : Class). k.constructor) o)
+written p class None ok = tt
+written p class (Some k) ok = ok.constructor
 
 -- ---- what a body of any class calls, where what enters a body has P
 
@@ -78,10 +75,6 @@ module _ {p : Parts} {P : (A : Type 0) → M Value A → Type 0} (f : ClosedFram
         (bodies.values (calls_of s enter enters None) (c.exps (map c.exp b.passes)) (length b.sets) ok.passes)
         (bodies.doing_all (calls_of s enter enters (Some class)) f.varies false (c.stas (map c.sta b.body)) (length b.sets) false ok.body)
 
-    written : (class : ℕ) (o : Option Class) → IsClass p class o → HasSoundConstructor p class (option_and_then (λ (k : Class). k.constructor) o)
-    written class None ok = tt
-    written class (Some k) ok = ok.constructor
-
     run_body : (here : Option ℕ) (required : ℕ) (k : Coded) (slots : ℕ) (me : Value) (args : List Value) → SoundBody p here slots k.body → P _ (n.run_coded p enter (Some k) me args)
     run_body here required k slots me args ok = framed_holds (reverse (parameters k.required k.defaults args)) me (bodies.body_value (calls_of s enter enters here) f.varies k.body slots ok)
 
@@ -105,7 +98,7 @@ module _ {p : Parts} {P : (A : Type 0) → M Value A → Type 0} (f : ClosedFram
     inside_holds sound (running (the_function i) me args) = function_holds (slice_get p.functions i) me args (sound.functions i)
     inside_holds sound (running (the_method m) me args) = method_holds m (slice_get p.methods m) me args (sound.methods m)
     inside_holds sound (running (the_constructor class) me args) =
-        construct class (constructor_of p class) me args (written class (slice_get p.classes class) (sound.classes class))
+        construct class (constructor_of p class) me args (written p class (slice_get p.classes class) (sound.classes class))
     inside_holds sound (listing v) = framed_holds [] v (h.list_text_holds (at_one s enter) (h.send_holds (at_one s enter) enters) v)
 
   -- whatever the depth is

@@ -11,3 +11,4 @@ pub mod Slots
 pub mod Receivers
 pub mod This
 pub mod Follows
+pub mod Entered

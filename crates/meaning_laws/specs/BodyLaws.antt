@@ -51,14 +51,17 @@ pub record Follows (p : Parts) (s t : Store) : Type 0 where
   pub classes : IsFront (classes s.heap) (classes t.heap)
   pub heap : IsHeap p s.heap → IsHeap p t.heap
 
+-- so an entry
 abbrev pub EntriesFollow : Type 0
 EntriesFollow = (p : Parts) → IsSound p → (depth : ℕ) (x : Entry Code) (r : Run Value) →
     Follows p r.store (last (enter p depth x r)).store
 
+-- so an expression of a sound body
 abbrev pub ExpressionsFollow : Type 0
 ExpressionsFollow = (p : Parts) → IsSound p → (here : Option ℕ) (slots : ℕ) (e : Exp) → Sound p here slots e →
     (depth : ℕ) (r : Run Value) → Follows p r.store (last (value p (enter p depth) e r)).store
 
+-- so a statement of a sound body
 abbrev pub StatementsFollow : Type 0
 StatementsFollow = (p : Parts) → IsSound p → (here : Option ℕ) (answers loops : Bool) (slots : ℕ) (x : Sta) → SoundSta p here answers slots loops x →
     (depth : ℕ) (r : Run Value) → Follows p r.store (last (doing p (enter p depth) x r)).store
@@ -85,5 +88,6 @@ pub record BySite (p : Parts) (enter : Entry Code → M Value Value) : Type 0 wh
   pub print : (v : Value) → calls.to_text (world p enter) (length p.sites - 2) v ≡ text_at p enter (length p.sites - 2) v
   pub lists : (v : Value) → calls.to_text (world p enter) (length p.sites - 1) v ≡ text_at p enter (length p.sites - 1) v
 
+-- Whatever enters bodies, calls go by the sites of the program.
 abbrev pub CallsGoBySite : Type 0
 CallsGoBySite = (p : Parts) → IsSound p → (enter : Entry Code → M Value Value) → BySite p enter

@@ -37,6 +37,7 @@ pub record Answers (p : Parts) (class : ℕ) (sel : Selector) (m : ℕ) : Type 0
   pub name : method.name ≡ sel.name
   pub takes : Accepts method.required (length method.defaults) sel.count
 
+-- where the call leads is such a member, or such a `noSuchMethod`
 abbrev pub TargetAnswers : Parts → ℕ → Selector → declared_target.Target → Type 0
 TargetAnswers p class sel (target.Method m) = Answers p class sel m.0
 TargetAnswers p class sel (target.Nsm m) = Answers p class no_such_method m.0
@@ -91,6 +92,7 @@ abbrev pub IsThing : Parts → Thing → Type 0
 IsThing p (object class held) = (length held ≡ length (fields p class)) × IsTrue (is_open class) × (class < length p.classes)
 IsThing p _ = Unit {0}
 
+-- a heap of such objects, and of lists and Invocations
 abbrev pub IsHeap : Parts → Heap → Type 0
 IsHeap p heap = All (IsThing p) heap
 
@@ -109,5 +111,6 @@ pub record Runs (p : Parts) (r : Run Value) : Type 0 where
   pub heap : IsHeap p r.store.heap
   pub globals : length r.store.globals ≡ length p.globals
 
+-- an entry point ends in such a state, however it ends
 abbrev pub EntryPointsRun : Type 0
 EntryPointsRun = (p : Parts) → IsSound p → (depth f turns : ℕ) → Runs p (last (entry_run p depth f turns))

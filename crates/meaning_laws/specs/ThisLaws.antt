@@ -11,9 +11,9 @@ use Rattle.program.specs.Parts.{Parts, parents}
 use Rattle.program.specs.Sound.{AboveAccepts, Sound, SoundSta}
 use Rattle.program.specs.Whole.{IsSound}
 use Rattle.dart_values.specs.Values.{Value, at, Heap, object, class_of}
-use Rattle.dart_meaning.specs.Numbered.{Code, the_function, the_method, the_constructor, method_at, constructor_at, class_above, fields, value, doing, enter}
-use Rattle.dart_meaning.specs.Program.{coded}
-use Rattle.dart_meaning.specs.Run.{Run}
+use Rattle.dart_meaning.specs.Numbered.{Code, the_function, the_method, the_constructor, method_at, constructor_at, class_above, fields, value, doing, inside, enter}
+use Rattle.dart_meaning.specs.Program.{coded, Entry, running, listing}
+use Rattle.dart_meaning.specs.Run.{Run, M}
 use Rattle.meaning_laws.specs.Laws.{IfWent}
 
 -- v is an object of the class, one of the user's, or of one below it; nothing where there is no class
@@ -62,3 +62,14 @@ abbrev pub StatementsLeaveThis : Type 0
 StatementsLeaveThis = (p : Parts) → IsSound p → (here : Option ℕ) (answers loops : Bool) (slots : ℕ) (x : Sta) → SoundSta p here answers slots loops x →
     (depth : ℕ) (r : Run Value) → IsOf p r.store.heap here r.this →
     IfWent (doing p (enter p depth) x r) (λ s. IsOf p s.store.heap here s.this)
+
+-- an entry with such a `this`
+abbrev pub Fits : Parts → Heap → Entry Code → Type 0
+Fits p heap (running code me args) = MayEnter p heap code me
+Fits p heap (listing v) = Unit {0}
+
+-- Whatever an entry enters has such a `this`: how the others would be entered does not matter.
+abbrev pub AllEntriesFit : Type 0
+AllEntriesFit = (p : Parts) → IsSound p → (depth : ℕ) (other : Entry Code → M Value Value) →
+    ((x : Entry Code) (r : Run Value) → Fits p r.store.heap x → other x r ≡ enter p depth x r) →
+    (x : Entry Code) (r : Run Value) → Fits p r.store.heap x → inside p other x r ≡ inside p (enter p depth) x r

@@ -1,7 +1,7 @@
 //! Laws of the meaning of numbered programs. Each is for every sound program and every entry, and so its function does nothing.
 
 ghost use Rattle.meaning_laws.specs.BodyLaws.{EntriesFollow, ExpressionsFollow, StatementsFollow, ExpressionsOpenNone, FirstPartsOpen, StatementsOpen, CallsGoBySite};
-ghost use Rattle.meaning_laws.specs.ThisLaws.{CallsMayEnter, SupersMayEnter, ConstructorsMayEnter, NewObjectsMayEnter, ExpressionsLeaveThis, StatementsLeaveThis};
+ghost use Rattle.meaning_laws.specs.ThisLaws.{CallsMayEnter, SupersMayEnter, ConstructorsMayEnter, NewObjectsMayEnter, ExpressionsLeaveThis, StatementsLeaveThis, AllEntriesFit};
 ghost use Rattle.meaning_laws.specs.Laws.{CallsGoByNumbers, TargetsTakeTheCall, NoTurnComesBack, GlobalsStay, EntriesLeaveTheFrame, ObjectsHaveTheirFields, AddressesKeepTheirClass, EntryPointsRun};
 
 /// Where a call goes is what the lookup by numbers says, and the member takes the call.
@@ -59,4 +59,9 @@ pub fn this_is_of_its_class()
 pub fn this_stays_of_its_class()
     ensures expressions { ExpressionsLeaveThis }
     ensures statements { StatementsLeaveThis }
+{}
+
+/// Each body that is entered has such a `this`.
+pub fn all_entries_fit()
+    ensures { AllEntriesFit }
 {}
