@@ -12,3 +12,4 @@ pub mod Receivers
 pub mod This
 pub mod Follows
 pub mod Entered
+pub mod Fields

@@ -1,20 +1,23 @@
 -- `this` in a body is an object of the class that holds the body, or of one below it.
-use Rattle.std.specs.Prelude.{◌≡◌, ℕ, ◌≤◌, Bool, [], ◌∷◌, ◌++◌, length, IsTrue, slice_get, Option, Some, None}
+use Rattle.std.specs.Prelude.{List, ◌≡◌, ℕ, ◌<◌, ◌≤◌, Bool, [], ◌∷◌, ◌++◌, length, IsTrue, slice_get, Option, Some, None}
 use Rattle.std.specs.Option.{option_map}
 use Rattle.program.specs.declared.numbered.Method.{Method}
 use Rattle.program.specs.declared.numbered.Selector.{Selector}
 use Rattle.program.specs.Bodies.{Exp, Sta}
 use Rattle.program.specs.BuiltIn.{is_open}
+use Rattle.program.specs.BuiltIn as built_in
 use Rattle.program.specs.Hierarchy.{is_above}
 use Rattle.program.specs.Lookup.{found_by}
 use Rattle.program.specs.Parts.{Parts, parents}
 use Rattle.program.specs.Sound.{AboveAccepts, Sound, SoundSta}
-use Rattle.program.specs.Whole.{IsSound}
-use Rattle.dart_values.specs.Values.{Value, at, Heap, object, class_of}
+use Rattle.program.specs.Whole.{IsSound, Declares}
+use Rattle.dart_values.specs.Natives.{thing_at}
+use Rattle.dart_values.specs.Reads.{object_fields}
+use Rattle.dart_values.specs.Values.{Value, at, Heap, object, class_of, list}
 use Rattle.dart_meaning.specs.Numbered.{Code, the_function, the_method, the_constructor, method_at, constructor_at, class_above, fields, value, doing, inside, enter}
 use Rattle.dart_meaning.specs.Program.{coded, Entry, running, listing}
 use Rattle.dart_meaning.specs.Run.{Run, M}
-use Rattle.meaning_laws.specs.Laws.{IfWent}
+use Rattle.meaning_laws.specs.Laws.{IfWent, IsHeap}
 
 -- v is an object of the class, one of the user's, or of one below it; nothing where there is no class
 abbrev pub IsOf : Parts → Heap → Option ℕ → Value → Type 0
@@ -73,3 +76,13 @@ abbrev pub AllEntriesFit : Type 0
 AllEntriesFit = (p : Parts) → IsSound p → (depth : ℕ) (other : Entry Code → M Value Value) →
     ((x : Entry Code) (r : Run Value) → Fits p r.store.heap x → other x r ≡ enter p depth x r) →
     (x : Entry Code) (r : Run Value) → Fits p r.store.heap x → inside p other x r ≡ inside p (enter p depth) x r
+
+-- An object has each field that its class declares, or one above it.
+abbrev pub DeclaredFieldsAreThere : Type 0
+DeclaredFieldsAreThere = (p : Parts) → IsSound p → (heap : Heap) (v : Value) (owner field : ℕ) → IsHeap p heap → IsOf p heap (Some owner) v →
+    Declares p owner field → field < length (object_fields (thing_at heap v))
+
+-- What is of class List is a list.
+abbrev pub ListsAreThere : Type 0
+ListsAreThere = (p : Parts) (heap : Heap) (v : Value) → IsHeap p heap → class_of heap v ≡ built_in.list →
+    (items : List Value) × (thing_at heap v ≡ Some (list items))

@@ -1,7 +1,7 @@
 //! Laws of the meaning of numbered programs. Each is for every sound program and every entry, and so its function does nothing.
 
 ghost use Rattle.meaning_laws.specs.BodyLaws.{EntriesFollow, ExpressionsFollow, StatementsFollow, ExpressionsOpenNone, FirstPartsOpen, StatementsOpen, CallsGoBySite};
-ghost use Rattle.meaning_laws.specs.ThisLaws.{CallsMayEnter, SupersMayEnter, ConstructorsMayEnter, NewObjectsMayEnter, ExpressionsLeaveThis, StatementsLeaveThis, AllEntriesFit};
+ghost use Rattle.meaning_laws.specs.ThisLaws.{CallsMayEnter, SupersMayEnter, ConstructorsMayEnter, NewObjectsMayEnter, ExpressionsLeaveThis, StatementsLeaveThis, AllEntriesFit, DeclaredFieldsAreThere, ListsAreThere};
 ghost use Rattle.meaning_laws.specs.Laws.{CallsGoByNumbers, TargetsTakeTheCall, NoTurnComesBack, GlobalsStay, EntriesLeaveTheFrame, ObjectsHaveTheirFields, AddressesKeepTheirClass, EntryPointsRun};
 
 /// Where a call goes is what the lookup by numbers says, and the member takes the call.
@@ -64,4 +64,10 @@ pub fn this_stays_of_its_class()
 /// Each body that is entered has such a `this`.
 pub fn all_entries_fit()
     ensures { AllEntriesFit }
+{}
+
+/// On such a heap an object has each field that its class declares, or one above it, and what is of class List is a list.
+pub fn things_are_of_their_class()
+    ensures fields { DeclaredFieldsAreThere }
+    ensures lists { ListsAreThere }
 {}
