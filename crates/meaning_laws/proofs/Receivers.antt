@@ -60,7 +60,7 @@ module _ (p : Parts) (sound : IsSound p) where
   behind true b h = refl
   behind false b h = h
 
-  -- a class that is in the chain of those above
+  -- what `super` names is declared by a class above the one that holds the body
   super_enters : (class m count : ℕ) (o : Option Method) (heap : Heap) (me : Value) (code : Code) → slice_get p.methods m ≡ o → IsOf p heap (Some class) me
       → AboveAccepts p (Some class) m count o → method_at p m ≡ Some (coded code) → MayEnter p heap code me
   super_enters class m count None heap me code there h a e = absurd a
