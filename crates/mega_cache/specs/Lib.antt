@@ -1,0 +1,6 @@
+pub mod Lists
+pub mod Entries
+pub mod Places
+pub mod Region
+pub mod Told
+pub mod Finds
