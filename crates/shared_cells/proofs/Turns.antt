@@ -608,6 +608,10 @@ module _ (p : About) (x c k : ℕ) (e : Entry) (newest : ℕ) (i : Info) (v u : 
 pub moved_bare : (p : About) (x c : ℕ) (i i' : Info) (seen : List Seen) → Move (p.at x) i.state [] c i'.state → i'.target ≡ state_target (p.at x) i'.state → Moved p x c i i' seen
 moved_bare p x c i i' seen m t = record { row = []; checks = λ q k e. absurd (some-ne-none k (sym e)); move = m; target = t }
 
+-- the check q was seen with another class
+abbrev Other : ℕ → ℕ → View → ℕ → Type 0
+Other x c w q = (k : Check) × Has (Set x q k) w.seen × (k.class.0 ≢ c)
+
 -- four checks that were seen with other classes make a site megamorphic
 pub moved_full : (p : About) (x c : ℕ) (i : Info) (w : View) → i.state ≡ Cached → OthersSeen x c 4 w → Moved p x c i (info Mega no_target) w.seen
 moved_full p x c i w is others =
@@ -619,21 +623,18 @@ moved_full p x c i w is others =
       target = refl;
     }
   where
-    abbrev Other : ℕ → Type 0
-    Other q = (k : Check) × Has (Set x q k) w.seen × (k.class.0 ≢ c)
-
-    at_row : (a : Other 0) (b : Other 1) (d : Other 2) (f : Other 3) → RowSeen x (a.0 ∷ b.0 ∷ d.0 ∷ f.0 ∷ []) w.seen
-    at_row a b d f 0 k e = subst (λ (z : Check). Has (Set x 0 z) w.seen) (some-injective a.0 k e) a.1
-    at_row a b d f 1 k e = subst (λ (z : Check). Has (Set x 1 z) w.seen) (some-injective b.0 k e) b.1
-    at_row a b d f 2 k e = subst (λ (z : Check). Has (Set x 2 z) w.seen) (some-injective d.0 k e) d.1
-    at_row a b d f 3 k e = subst (λ (z : Check). Has (Set x 3 z) w.seen) (some-injective f.0 k e) f.1
+    at_row : (a : Other x c w 0) (b : Other x c w 1) (d : Other x c w 2) (f : Other x c w 3) → RowSeen x (a.0 ∷ b.0 ∷ d.0 ∷ f.0 ∷ []) w.seen
+    at_row a b d f zero k e = subst (λ (z : Check). Has (Set x 0 z) w.seen) (some-injective a.0 k e) a.1
+    at_row a b d f (suc zero) k e = subst (λ (z : Check). Has (Set x 1 z) w.seen) (some-injective b.0 k e) b.1
+    at_row a b d f (suc (suc zero)) k e = subst (λ (z : Check). Has (Set x 2 z) w.seen) (some-injective d.0 k e) d.1
+    at_row a b d f (suc (suc (suc zero))) k e = subst (λ (z : Check). Has (Set x 3 z) w.seen) (some-injective f.0 k e) f.1
     at_row a b d f (suc (suc (suc (suc q)))) k e = absurd (some-ne-none k (sym e))
 
-    apart : (a : Other 0) (b : Other 1) (d : Other 2) (f : Other 3) (q : ℕ) (k : Check) → get_elem? (a.0 ∷ b.0 ∷ d.0 ∷ f.0 ∷ []) q ≡ some k → k.class.0 ≢ c
-    apart a b d f 0 k e = subst (λ (z : Check). z.class.0 ≢ c) (some-injective a.0 k e) a.2
-    apart a b d f 1 k e = subst (λ (z : Check). z.class.0 ≢ c) (some-injective b.0 k e) b.2
-    apart a b d f 2 k e = subst (λ (z : Check). z.class.0 ≢ c) (some-injective d.0 k e) d.2
-    apart a b d f 3 k e = subst (λ (z : Check). z.class.0 ≢ c) (some-injective f.0 k e) f.2
+    apart : (a : Other x c w 0) (b : Other x c w 1) (d : Other x c w 2) (f : Other x c w 3) (q : ℕ) (k : Check) → get_elem? (a.0 ∷ b.0 ∷ d.0 ∷ f.0 ∷ []) q ≡ some k → k.class.0 ≢ c
+    apart a b d f zero k e = subst (λ (z : Check). z.class.0 ≢ c) (some-injective a.0 k e) a.2
+    apart a b d f (suc zero) k e = subst (λ (z : Check). z.class.0 ≢ c) (some-injective b.0 k e) b.2
+    apart a b d f (suc (suc zero)) k e = subst (λ (z : Check). z.class.0 ≢ c) (some-injective d.0 k e) d.2
+    apart a b d f (suc (suc (suc zero))) k e = subst (λ (z : Check). z.class.0 ≢ c) (some-injective f.0 k e) f.2
     apart a b d f (suc (suc (suc (suc q)))) k e = absurd (some-ne-none k (sym e))
 
 pub is_move : (p : About) (x c k : ℕ) (i i' : Info) (seen : List Seen) → Moved p x c i i' seen → IsMove p x c (change k i i')

@@ -45,10 +45,10 @@ moves-requires-clause-level g c =
     levels p x k _ _ _ _ _ _ i u l [] u refl refl tt (l.h, l.learnt) (misses x k i.state [] c.if-is_cached.ensures not)
 
 pub resolve-target-requires-clause-site : goal.resolve-target-requires-clause-site
-resolve-target-requires-clause-site g c = let n = c.requires.named in call_site _ _ _ _ n.3 n.1 c.requires.reach.2
+resolve-target-requires-clause-site g c = let n = c.requires.named in call_site g.N.Call.about c.args.linked.now g.N.Call.site c.args.site.0 n.3 n.1 c.requires.reach.2
 
 pub resolve-target-requires-clause-class : goal.resolve-target-requires-clause-class
-resolve-target-requires-clause-class g c = let n = c.requires.named in call_class _ _ _ _ _ n.3 n.2 c.requires.reach.3
+resolve-target-requires-clause-class g c = let n = c.requires.named in call_class g.N.Call.about c.args.linked.now g.N.Call.site g.N.Call.class c.args.class.0 n.3 n.2 c.requires.reach.3
 
 pub moves-requires-clause-unexplained : goal.moves-requires-clause-unexplained
 moves-requires-clause-unexplained g c =

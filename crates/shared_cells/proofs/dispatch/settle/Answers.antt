@@ -62,7 +62,7 @@ returns-then-is_cached-clause-turned g c =
     full_round p x k _ _ _ _ _ u2 m2 (λ _. still_placed x c.args.info.state u1 u2 c.take.ensures.on c.add_first.ensures.placed) _ _ _ c.load_target-head.ensures.told
 
 pub resolve-target-requires-clause-site : goal.resolve-target-requires-clause-site
-resolve-target-requires-clause-site g c = let n = c.requires.named in call_site _ _ _ _ n.3 n.1 c.requires.reach.2
+resolve-target-requires-clause-site g c = let n = c.requires.named in call_site g.N.Call.about c.args.linked.now g.N.Call.site c.args.site.0 n.3 n.1 c.requires.reach.2
 
 pub resolve-target-requires-clause-class : goal.resolve-target-requires-clause-class
-resolve-target-requires-clause-class g c = let n = c.requires.named in call_class _ _ _ _ _ n.3 n.2 c.requires.reach.3
+resolve-target-requires-clause-class g c = let n = c.requires.named in call_class g.N.Call.about c.args.linked.now g.N.Call.site g.N.Call.class c.args.class.0 n.3 n.2 c.requires.reach.3

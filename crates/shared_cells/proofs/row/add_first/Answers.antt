@@ -7,7 +7,7 @@ use Rattle.shared_cells.proofs.Reading.{fits_check, placed_by, mono_inj}
 use Rattle.shared_cells.proofs.row.add_first.Goals as goal
 
 pub resolve-target-requires-clause-site : goal.resolve-target-requires-clause-site
-resolve-target-requires-clause-site g c = call_site _ _ _ _ c.requires.named.2 c.requires.named.1 c.requires.reach.2
+resolve-target-requires-clause-site g c = call_site g.N.Call.about c.args.linked.now g.N.Call.site c.args.site.0 c.requires.named.2 c.requires.named.1 c.requires.reach.2
 
 pub resolve-target-requires-clause-class : goal.resolve-target-requires-clause-class
 resolve-target-requires-clause-class g c =
