@@ -313,4 +313,3 @@ pub fn run<N: Call, L: Ledger>(
         }
     }
 }
-

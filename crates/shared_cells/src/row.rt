@@ -105,7 +105,6 @@ pub fn add_first<N: Call, L: Ledger>(
             let target = resolve(linked, site, class);
             take::<N, L>(words, seat, site, Check { class, target }, 0, steps);
         }
-        CallState::Unlinked | CallState::Single(_, _, _) | CallState::Cached | CallState::Mega => {
-        }
+        CallState::Unlinked | CallState::Single(_, _, _) | CallState::Cached | CallState::Mega => {}
     }
 }

@@ -31,10 +31,8 @@ pub fn is_cached(state: CallState) -> bool
 {
     match state {
         CallState::Cached => true,
-        CallState::Unlinked
-        | CallState::Mono(_)
-        | CallState::Single(_, _, _)
-        | CallState::Mega => false,
+        CallState::Unlinked | CallState::Mono(_) | CallState::Single(_, _, _) | CallState::Mega =>
+            false,
     }
 }
 
@@ -43,10 +41,8 @@ pub fn is_mega(state: CallState) -> bool
 {
     match state {
         CallState::Mega => true,
-        CallState::Unlinked
-        | CallState::Mono(_)
-        | CallState::Single(_, _, _)
-        | CallState::Cached => false,
+        CallState::Unlinked | CallState::Mono(_) | CallState::Single(_, _, _) | CallState::Cached =>
+            false,
     }
 }
 
