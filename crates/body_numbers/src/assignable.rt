@@ -36,11 +36,16 @@ pub fn assignment_target<N: Numbers>(
     match to {
         Assignable::Local(slot) => AssignmentTarget::Local(slot),
         Assignable::Global(place) => AssignmentTarget::Global(place),
-        Assignable::Super(name) =>
-            AssignmentTarget::Super(numbers.super_number(SelectorKind::Set, name)),
+        Assignable::Super(name) => AssignmentTarget::Super(numbers.super_number(
+            SelectorKind::Set,
+            name,
+        )),
         Assignable::Member(to, at) => AssignmentTarget::Member(to, numbers.writing_site(at)),
-        Assignable::Element(to, index, at) =>
-            AssignmentTarget::Element(to, index, numbers.writing_site(at)),
+        Assignable::Element(to, index, at) => AssignmentTarget::Element(
+            to,
+            index,
+            numbers.writing_site(at),
+        ),
     }
 }
 
@@ -55,10 +60,17 @@ pub fn update_target<N: Numbers>(numbers: &N, to: Assignable) -> UpdateTarget<Bo
             numbers.super_number(SelectorKind::Get, name),
             numbers.super_number(SelectorKind::Set, name),
         ),
-        Assignable::Member(to, at) =>
-            UpdateTarget::Member(to, numbers.site(at), numbers.writing_site(at)),
-        Assignable::Element(to, index, at) =>
-            UpdateTarget::Element(to, index, numbers.site(at), numbers.writing_site(at)),
+        Assignable::Member(to, at) => UpdateTarget::Member(
+            to,
+            numbers.site(at),
+            numbers.writing_site(at),
+        ),
+        Assignable::Element(to, index, at) => UpdateTarget::Element(
+            to,
+            index,
+            numbers.site(at),
+            numbers.writing_site(at),
+        ),
     }
 }
 

@@ -197,8 +197,13 @@ pub fn prefixed<N: Numbers>(
     ensures { IfOk result (λ x. c.exp x ≡ num.prefixed (N.tree numbers.now) (N.site_of numbers.now) (N.here numbers.now) op at (c.exp operand)) }
 {
     match op {
-        Unary::Minus | Unary::Complement =>
-            one_call(alloc, numbers, at, operand, Items::new(alloc)),
+        Unary::Minus | Unary::Complement => one_call(
+            alloc,
+            numbers,
+            at,
+            operand,
+            Items::new(alloc),
+        ),
         Unary::Not => Ok(Expression::Not(operand)),
     }
 }

@@ -135,7 +135,15 @@ pub fn statement<'a, N: Numbers>(
         Stmt::For(start, test, last, body) => {
             let count = slots.count();
             let start = first_of(alloc, numbers, slots, start)?;
-            match turns(alloc, numbers, slots, count, body.get(), test, last.as_slice()) {
+            match turns(
+                alloc,
+                numbers,
+                slots,
+                count,
+                body.get(),
+                test,
+                last.as_slice(),
+            ) {
                 Ok((test, last, body)) => Ok(Statement::For(start, test, last, body)),
                 Err(e) => {
                     let_go(start);

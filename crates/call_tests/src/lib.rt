@@ -6,8 +6,6 @@ mod built_in;
 #[cfg(test)]
 mod classes;
 #[cfg(test)]
-mod declarations;
-#[cfg(test)]
 mod lookup;
 #[cfg(test)]
 mod members;
@@ -17,8 +15,6 @@ mod numbering;
 mod parsing;
 #[cfg(test)]
 mod printing;
-#[cfg(test)]
-mod resolving;
 #[cfg(test)]
 mod rows;
 #[cfg(test)]

@@ -1,7 +1,7 @@
 // The numbered program of a text: its lists, its entries and its call sites.
 use dart_lexer::tokens;
 use dart_parser::parse;
-use program::{Numbered, Place};
+use program::{Numbered, SitePlace};
 use resolver::resolve;
 use std::alloc::Global;
 use std::test::Fail;
@@ -30,8 +30,8 @@ fn site(program: &Numbered, at: usize) -> Option<(u16, &[u8], u32, u32, u32)> {
     let site = program.sites.get(at)?;
     let selector = program.selectors.get(site.selector.0 as usize)?;
     let (line, column) = match site.place {
-        Place::At { line, column } => (line, column),
-        Place::Print | Place::List => (0, 0),
+        SitePlace::At { line, column } => (line, column),
+        SitePlace::Print | SitePlace::List => (0, 0),
     };
     Some((
         site.selector.0,

@@ -4,66 +4,22 @@ use dart_lexer::{LexError, tokens};
 use dart_syntax::{Token, TokenKind};
 use std::test::Fail;
 
+/// Faults that no line of text can hold: bytes that are not UTF-8, and line ends.
 #[test]
 fn names_the_first_fault(rt: HostRuntime) {
-    use LexError::{BadChar, NotUtf8, ReservedWord, UnclosedComment, UnclosedString, WideInteger};
-    let cases: [(&[u8], LexError); 48] = [
-        // Not UTF-8, which is looked at before all else.
+    use LexError::{BadChar, NotUtf8, UnclosedString};
+    let cases: [(&[u8], LexError); 11] = [
         (b"m\xFF", NotUtf8 { at: 1 }),
         (b"\xFF", NotUtf8 { at: 0 }),
         (b"# '\xC3", NotUtf8 { at: 3 }),
         (b"/* \xED\xA0\x80 */", NotUtf8 { at: 3 }),
-        // Strings.
-        (b"main() { print('ab", UnclosedString { at: 15 }),
-        (b"main() { print('${'b", UnclosedString { at: 18 }),
-        (b"'", UnclosedString { at: 0 }),
         (b"'a\n'", UnclosedString { at: 0 }),
         (b"'a\r'", UnclosedString { at: 0 }),
-        (b"'a\\", UnclosedString { at: 0 }),
         (b"'a\\\n'", UnclosedString { at: 0 }),
-        (b"a'${b", UnclosedString { at: 1 }),
         (b"a'${b\n}'", UnclosedString { at: 1 }),
         (b"'${\"${a\n}\"}'", UnclosedString { at: 3 }),
-        (b"'${{", UnclosedString { at: 0 }),
-        (b"'${a // }'", UnclosedString { at: 0 }),
-        (b"'${a}b", UnclosedString { at: 0 }),
-        (b"'$a", UnclosedString { at: 0 }),
-        // Comments.
-        (b"/* a /* b */", UnclosedComment { at: 0 }),
-        (b"a /*", UnclosedComment { at: 2 }),
-        (b"/*/", UnclosedComment { at: 0 }),
-        (b"'${ /* a }'", UnclosedComment { at: 4 }),
         (b"'${ /* a \n */ }'", UnclosedString { at: 0 }),
-        // Characters.
-        (b"#", BadChar { at: 0 }),
-        (b"a#", BadChar { at: 1 }),
-        (b"/", BadChar { at: 0 }),
-        (b"~//", BadChar { at: 2 }),
-        (b"a \xC3\xA9", BadChar { at: 2 }),
-        (b"'${\xC3\xA9}'", BadChar { at: 3 }),
-        (b"'a$'", BadChar { at: 2 }),
-        (b"'$1'", BadChar { at: 1 }),
-        (b"'$if'", BadChar { at: 1 }),
-        (b"'$\xC3\xA9'", BadChar { at: 1 }),
-        (b"'a\\x4'", BadChar { at: 2 }),
-        (b"'\\x", BadChar { at: 1 }),
         (b"'\\x4\n'", BadChar { at: 1 }),
-        (b"'\\u12'", BadChar { at: 1 }),
-        (b"'\\u{}'", BadChar { at: 1 }),
-        (b"'\\u{0000041}'", BadChar { at: 1 }),
-        (b"'\\u{110000}'", BadChar { at: 1 }),
-        (b"'\\u{41'", BadChar { at: 1 }),
-        // Integers and words.
-        (b"f() => 0x;", BadChar { at: 7 }),
-        (
-            b"main() { print(9223372036854775809); }",
-            WideInteger { at: 15 },
-        ),
-        (b"'${0x10000000000000000}'", WideInteger { at: 3 }),
-        (b"main() { try", ReservedWord { at: 9 }),
-        (b"'${in}'", ReservedWord { at: 3 }),
-        (b"'$assert'", ReservedWord { at: 2 }),
-        (b"'$a$with", ReservedWord { at: 4 }),
     ];
     for (text, want) in cases {
         if text.len() < 100 {

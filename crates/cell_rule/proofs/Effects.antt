@@ -81,7 +81,7 @@ module _ (p : About) where
     concrete_called c m = (each_has (InRange p) m.1.asked (call x c) m.3 (r.each_view m.0 m.1 m.2).in_range).1
 
   -- a check with a class and its target fits the word
-  right_fits : (x : ℕ) (k : Check) → Sound p → k.class.0 < (p.at x).classes → k.target ≡ (p.at x).resolve k.class.0 → CheckFits k
+  pub right_fits : (x : ℕ) (k : Check) → Sound p → k.class.0 < (p.at x).classes → k.target ≡ (p.at x).resolve k.class.0 → CheckFits k
   right_fits x k sound small is = let few = sound.few_classes in let same = sound.same x in
       record { class = omega arith; target = subst IsSmall (sym is) (sound.small x k.class.0) }
 

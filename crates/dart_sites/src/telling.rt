@@ -255,13 +255,10 @@ fn tell_program(
     requires entries { (name : List ℕ) → is_some (entry_named program name) ≡ has_entry (unit tree.now) name }
     ensures { OutcomeSays request source.now result }
 {
-    let told = match request {
+    match request {
         Request::Check => check_tree(alloc, source, tree, &program),
         Request::Run { turns } => run_tree(alloc, source, tree, &program, turns),
-    };
-    // A chain of selectors nests as deep as it is long, and to take it apart would need as much stack.
-    std::mem::forget(program);
-    told
+    }
 }
 
 /// What a request says of a source with this tree.

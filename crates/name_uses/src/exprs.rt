@@ -38,7 +38,11 @@ fn prefix_use<'a>(out: &mut Uses<'a>, op: Unary, at: Span, x: &Expr) -> Result<(
 }
 
 /// The operator that is called, if any.
-fn operator_use<'a>(out: &mut Uses<'a>, op: Option<BinaryOperator>, at: Span) -> Result<(), AllocError>
+fn operator_use<'a>(
+    out: &mut Uses<'a>,
+    op: Option<BinaryOperator>,
+    at: Span,
+) -> Result<(), AllocError>
     ensures { OnOk result (out.new ≡ out.old ++ u.operator_use op at) }
 {
     match op {

@@ -3,6 +3,7 @@
 ghost use Rattle.std.specs.Prelude.{◌≡◌, is_some};
 ghost use Rattle.dart_syntax.specs.Syntax as t;
 ghost use Rattle.program.specs.declared.numbered.SelectorKind.TheVariants as kind;
+ghost use Rattle.dart_meaning.specs.Classes as classes;
 ghost use Rattle.dart_meaning.specs.Means as m;
 ghost use Rattle.name_uses.specs.Found.{part_of, kind_of};
 ghost use Rattle.static_rules.specs.Members as members;
@@ -24,7 +25,7 @@ pub trait Names {
 
     /// The class that holds the part declares a member of this name.
     fn is_own_member(&self, part: &Part, name: &[u8]) -> bool
-        ensures { result ≡ m.is_own_member (looked_class (tree self.now) (part_of part.now).class) name.now };
+        ensures { result ≡ classes.is_own_member (looked_class (tree self.now) (part_of part.now).class) name.now };
 
     /// The class that holds the part declares a field of this name.
     fn has_field(&self, part: &Part, name: &[u8]) -> bool
@@ -110,7 +111,7 @@ pub fn has_this(kind: Kind) -> bool
 }
 
 fn beyond<N: Names>(names: &N, part: &Part, name: &[u8]) -> Means
-    ensures { means_of result ≡ m.beyond (m.is_own_member (looked_class (N.tree names.now) (part_of part.now).class) name.now) (m.is_top (N.tree names.now) name.now) (m.has_this (part_of part.now).kind) }
+    ensures { means_of result ≡ m.beyond (classes.is_own_member (looked_class (N.tree names.now) (part_of part.now).class) name.now) (m.is_top (N.tree names.now) name.now) (m.has_this (part_of part.now).kind) }
 {
     if names.is_own_member(part, name) {
         Means::AMember

@@ -9,7 +9,7 @@ ghost use Rattle.site_list.specs.SourceSites.{listed};
 use dart_syntax::token::Span;
 use dart_syntax::tree::Tree;
 use program::SiteId;
-use site_list::{SitePlace, SourceSite, site_number};
+use site_list::{SourceSite, TextPlace, site_number};
 use tree_lists::SiteNumbers;
 
 /// The sites of a tree in the order of their places.
@@ -35,10 +35,10 @@ impl<'a> SiteNumbers for OrderedSites<'a> {
     ghost tree = { λ s. unit s.tree.now };
 
     fn reading(&self, at: Span) -> SiteId {
-        site_number(self.sites, SitePlace::Reading(at.start))
+        site_number(self.sites, TextPlace::Reading(at.start))
     }
 
     fn writing(&self, at: Span) -> SiteId {
-        site_number(self.sites, SitePlace::Writing(at.start))
+        site_number(self.sites, TextPlace::Writing(at.start))
     }
 }

@@ -4,7 +4,7 @@ use Rattle.std.specs.List.{AllByRecursion, position_or_len}
 use Rattle.std.proofs.lemmas.List.Sums.{prefix_len-le-length}
 use Rattle.program.specs.declared.numbered.Selector.{Selector}
 use Rattle.program.specs.declared.numbered.Site as program
-use Rattle.program.specs.declared.numbered.Place as program_place
+use Rattle.program.specs.declared.numbered.SitePlace as program_place
 use Rattle.dart_syntax.specs.Syntax.{Tree}
 use Rattle.dart_values.specs.Values.{Text}
 use Rattle.dart_meaning.specs.Program.{to_string}
@@ -22,7 +22,7 @@ use Rattle.site_list.proofs.Sets.{asked_is, map_append}
 abbrev place_in : Selector → List Selector → ℕ
 place_in sel known = position_or_len (same_selector sel) known
 
-abbrev with_number : program_place.Place → ℕ → program.Site
+abbrev with_number : program_place.SitePlace → ℕ → program.Site
 with_number place n = record { selector = record { 0 = n }; place = place }
 
 pub place_most : (sel : Selector) (known : List Selector) → place_in sel known ≤ length known

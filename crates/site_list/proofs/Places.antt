@@ -15,8 +15,8 @@ use Rattle.dart_meaning.specs.Sites.{Site, key, text_sites, site_of}
 use Rattle.dart_meaning.specs.NumberedForm.{in_order}
 use Rattle.accepted_trees.proofs.sites.Order.{Least, Ordered, ordered_from, ordered_line, line_is, map_line}
 use Rattle.accepted_trees.proofs.sites.TextSites.{InText, by_place, order_is, order_moves, number_is}
-use Rattle.site_list.specs.declared.site.SitePlace.{SitePlace}
-use Rattle.site_list.specs.declared.site.SitePlace.TheVariants as v
+use Rattle.site_list.specs.declared.site.TextPlace.{TextPlace}
+use Rattle.site_list.specs.declared.site.TextPlace.TheVariants as v
 use Rattle.site_list.specs.declared.site.SourceSite.{SourceSite}
 use Rattle.site_list.specs.SourceSites.{place_of, site_of_source, listed}
 
@@ -88,11 +88,11 @@ count_listed m [] = refl
 count_listed m (x ∷ xs) =
     count_one (λ s. nat_lt (by s) m) x xs ∙ ap (λ n. bit (nat_lt (by x) m) + n) (count_listed m xs) ∙ sym (count_one (λ (s : Site). nat_lt (key s.place) m) (site_of_source x) (listed xs))
 
-in_text : (place : SitePlace) → InText (place_of place)
+in_text : (place : TextPlace) → InText (place_of place)
 in_text (v.Reading byte) = tt
 in_text (v.Writing byte) = tt
 
-pub number_at : (tree : Tree) (place : SitePlace) (m : ℕ) (xs : List SourceSite) (i : ℕ) → m ≡ key (place_of place) → i ≤ length xs → IsPartitionPoint (λ s. nat_lt (by s) m ≡ true) (λ s. nat_lt (by s) m ≡ false) xs i → listed xs ≡ in_order (text_sites tree) → i ≡ site_of tree (place_of place)
+pub number_at : (tree : Tree) (place : TextPlace) (m : ℕ) (xs : List SourceSite) (i : ℕ) → m ≡ key (place_of place) → i ≤ length xs → IsPartitionPoint (λ s. nat_lt (by s) m ≡ true) (λ s. nat_lt (by s) m ≡ false) xs i → listed xs ≡ in_order (text_sites tree) → i ≡ site_of tree (place_of place)
 number_at tree place m xs i is le point e =
     let split = split_count (λ s. nat_lt (by s) m) xs i le (λ k d lt. point.0 k d (omega arith) lt) (λ k d ge lt. point.1 k d ge lt) in
     let there : count_by (λ (s : Site). nat_lt (key s.place) m) (in_order (text_sites tree)) ≡ count_by (λ (s : Site). nat_lt (key s.place) m) (text_sites tree) = sum_by-IsPermutation (λ (s : Site). bit (nat_lt (key s.place) m)) (text_sites tree) (in_order (text_sites tree)) (order_moves (text_sites tree)) in

@@ -1,15 +1,15 @@
 -- The sites that src/ lists.
 use Rattle.std.specs.Prelude.{List, [], ◌∷◌, map, Option, None, Some}
 use Rattle.std.specs.HashSet.{HashSet}
-use Rattle.site_list.specs.declared.site.SitePlace.{SitePlace}
-use Rattle.site_list.specs.declared.site.SitePlace.TheVariants as v
+use Rattle.site_list.specs.declared.site.TextPlace.{TextPlace}
+use Rattle.site_list.specs.declared.site.TextPlace.TheVariants as v
 use Rattle.site_list.specs.declared.site.SourceSelector.{SourceSelector}
 use Rattle.site_list.specs.declared.site.SourceSite.{SourceSite}
 use Rattle.program.specs.declared.numbered.Selector.{Selector}
 use Rattle.dart_meaning.specs.Place.{Place, reading, writing}
 use Rattle.dart_meaning.specs.Sites.{Site, site}
 
-abbrev pub place_of : SitePlace → Place
+abbrev pub place_of : TextPlace → Place
 place_of (v.Reading byte) = reading byte
 place_of (v.Writing byte) = writing byte
 

@@ -5,7 +5,7 @@ ghost use Rattle.dart_meaning.specs.Place.{reading};
 ghost use Rattle.dart_meaning.specs.NumberedForm.{shown_place};
 ghost use Rattle.site_list.specs.Rows.{Stands};
 
-use program::Place;
+use program::SitePlace;
 
 /// A place of a text, with its line and its column.
 #[derive(Clone, Copy)]
@@ -51,7 +51,7 @@ impl Cursor {
 
     /// The line and the column of a byte. It goes on from where it stands, or begins anew where the byte lies behind.
     #[tactic(auto, using(crate::proofs::Lines::line_end, crate::proofs::Lines::column_end))]
-    pub fn place_at(&mut self, text: &[u8], byte: u32) -> Place
+    pub fn place_at(&mut self, text: &[u8], byte: u32) -> SitePlace
         requires small { length text.now < 2 ^ 32 - 1 }
         requires stands { Stands text.now self.old }
         ensures place { result ≡ shown_place text.now (reading byte) }
@@ -62,7 +62,7 @@ impl Cursor {
             *self = Cursor::new();
         }
         self.go_on(text, to);
-        Place::At {
+        SitePlace::At {
             line: self.line,
             column: self.column,
         }

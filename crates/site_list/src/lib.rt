@@ -14,5 +14,5 @@ mod tables;
 pub use counts::{count_selectors, count_sites};
 pub use listing::sites_of;
 pub use order::{put_in_order, site_number};
-pub use site::{SitePlace, SourceSelector, SourceSite};
+pub use site::{SourceSelector, SourceSite, TextPlace};
 pub use tables::{SiteTables, tables_of};

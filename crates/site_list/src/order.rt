@@ -6,17 +6,17 @@ ghost use Rattle.dart_meaning.specs.Sites.{key, text_sites, site_of};
 ghost use Rattle.dart_meaning.specs.NumberedForm.{in_order};
 ghost use Rattle.site_list.specs.SourceSites.{place_of, listed};
 
-use crate::site::{SitePlace, SourceSite};
+use crate::site::{SourceSite, TextPlace};
 use program::SiteId;
 use std::alloc::AllocError;
 
 /// A place as a number: at one byte the read stands before the write.
-fn key_of(place: SitePlace) -> u64
+fn key_of(place: TextPlace) -> u64
     ensures { result ≡ key (place_of place) }
 {
     match place {
-        SitePlace::Reading(byte) => 2 * u64::from(byte),
-        SitePlace::Writing(byte) => 2 * u64::from(byte) + 1,
+        TextPlace::Reading(byte) => 2 * u64::from(byte),
+        TextPlace::Writing(byte) => 2 * u64::from(byte) + 1,
     }
 }
 
@@ -29,7 +29,7 @@ pub fn put_in_order(sites: &mut Vec<SourceSite>) -> Result<(), AllocError>
 }
 
 /// The number of the site at a place: how many sites of the text stand before it.
-pub fn site_number(sites: &[SourceSite], place: SitePlace) -> SiteId
+pub fn site_number(sites: &[SourceSite], place: TextPlace) -> SiteId
     requires { length sites.now ≤ 65536 }
     ensures { (tree : t.Tree) → listed sites.now ≡ in_order (text_sites tree) → result.0 ≡ site_of tree (place_of place) }
 {

@@ -13,14 +13,14 @@ use crate::cursor::Cursor;
 use crate::selectors::note;
 use crate::site::{SourceSelector, SourceSite, calling};
 use indexmap::IndexSet;
-use program::{Place, SelectorId, Site};
+use program::{SelectorId, Site, SitePlace};
 use std::alloc::{AllocError, Global};
 
 /// A row, by the number of its selector.
 fn row<'a>(
     known: &mut IndexSet<SourceSelector<'a>>,
     selector: SourceSelector<'a>,
-    place: Place,
+    place: SitePlace,
 ) -> Result<Site, AllocError>
     requires { length (held known.old) ≤ 2048 }
     ensures known { OnOk result (held known.new ≡ also_used (held known.old) (selector_of selector.entry ∷ [])) }
@@ -82,7 +82,7 @@ pub fn put_last_rows<'a>(
     ensures rows { OnOk result ((text : Text) → rows.new.items ≡ rows.old.items ++ map (row_in text (also_used (held known.old) (to_string ∷ to_string ∷ []))) prelude_sites) }
 {
     let to_string = calling(b"toString", 0);
-    rows.push(row(known, to_string, Place::Print)?)?;
-    rows.push(row(known, to_string, Place::List)?)?;
+    rows.push(row(known, to_string, SitePlace::Print)?)?;
+    rows.push(row(known, to_string, SitePlace::List)?)?;
     Ok(())
 }

@@ -13,17 +13,17 @@ use program::SelectorKind;
 
 /// Where a site stands: at this byte of the text, where a read comes before a write.
 #[derive(Clone, Copy, Debug, PartialEq, Eq)]
-pub enum SitePlace {
+pub enum TextPlace {
     Reading(u32),
     Writing(u32),
 }
 
-impl SitePlace {
+impl TextPlace {
     pub fn byte(self) -> u32
         ensures { (text : Text) → shown_place text (place_of self) ≡ shown_place text (reading result) }
     {
         match self {
-            SitePlace::Reading(byte) | SitePlace::Writing(byte) => byte,
+            TextPlace::Reading(byte) | TextPlace::Writing(byte) => byte,
         }
     }
 }
@@ -39,7 +39,7 @@ pub struct SourceSelector<'a> {
 /// A site of the text.
 #[derive(Clone, Copy)]
 pub struct SourceSite<'a> {
-    pub place: SitePlace,
+    pub place: TextPlace,
     pub selector: SourceSelector<'a>,
 }
 
@@ -79,7 +79,7 @@ pub fn read_at<'a>(at: Span, selector: SourceSelector<'a>) -> SourceSite<'a>
     ensures { site_of_source result ≡ site (reading at.start) (selector_of selector.entry) }
 {
     SourceSite {
-        place: SitePlace::Reading(at.start),
+        place: TextPlace::Reading(at.start),
         selector,
     }
 }
@@ -89,7 +89,7 @@ pub fn write_at<'a>(at: Span, selector: SourceSelector<'a>) -> SourceSite<'a>
     ensures { site_of_source result ≡ site (writing at.start) (selector_of selector.entry) }
 {
     SourceSite {
-        place: SitePlace::Writing(at.start),
+        place: TextPlace::Writing(at.start),
         selector,
     }
 }

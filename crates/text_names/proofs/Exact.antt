@@ -8,8 +8,8 @@ use Rattle.program.specs.declared.numbered.Class.{Class}
 use Rattle.program.specs.declared.numbered.Method.{Method}
 use Rattle.program.specs.declared.numbered.SelectorKind.{SelectorKind}
 use Rattle.program.specs.BuiltIn.{built_in_classes, built_in_members}
-use Rattle.dart_meaning.specs.Classes.{classes, class_named, parent}
-use Rattle.dart_meaning.specs.Means.{super_member, top_named, is_own_member, is_top, is_class}
+use Rattle.dart_meaning.specs.Classes.{is_own_member, classes, class_named, parent}
+use Rattle.dart_meaning.specs.Means.{super_member, top_named, is_top, is_class}
 use Rattle.std.specs.Option.{option_and_then}
 use Rattle.dart_syntax.specs.Syntax as t
 use Rattle.dart_syntax.specs.Syntax.{Member}

@@ -4,6 +4,7 @@ ghost use Rattle.std.specs.Prelude.{◌≡◌, is_some, option_map, map, unwrap_
 ghost use Rattle.std.specs.Option.{option_and_then};
 ghost use Rattle.dart_syntax.specs.View.{unit};
 ghost use Rattle.dart_meaning.specs.Classes.{own, parent, chain_above, first_some, object};
+ghost use Rattle.dart_meaning.specs.Classes as classes;
 ghost use Rattle.dart_meaning.specs.Means as m;
 ghost use Rattle.program.specs.declared.numbered.SelectorKind.TheVariants as kind;
 ghost use Rattle.name_uses.specs.Found.{part_of};
@@ -37,7 +38,7 @@ impl<'a> TextNames<'a> {
 
     /// The class that holds the part declares a member of this name.
     pub fn is_own_member(&self, part: &Part, name: &[u8]) -> bool
-        ensures { result ≡ m.is_own_member (looked_class (unit self.now.tree.now) (part_of part.now).class) name.now }
+        ensures { result ≡ classes.is_own_member (looked_class (unit self.now.tree.now) (part_of part.now).class) name.now }
     {
         is_within(Within::Members, self.own_class(part), name)
     }

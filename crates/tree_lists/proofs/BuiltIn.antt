@@ -8,7 +8,7 @@ use Rattle.program.specs.declared.ids.ClassId.{ClassId}
 use Rattle.program.specs.declared.numbered.Class.{Class}
 use Rattle.program.specs.BuiltIn.{built_in_classes}
 use Rattle.dart_values.specs.Values.{Text}
-use Rattle.dart_meaning.specs.Classes.{children, preorder, class_count, class_named, class_names, class_number, parent_of, field_of, first_some, constructor_in, built_in_names}
+use Rattle.dart_meaning.specs.Classes.{children, preorder, class_count, class_named, class_names, class_number, parent_of, declared_fields, first_some, constructor_in, built_in_names}
 use Rattle.dart_meaning.specs.Forms.{ClassForm, class_form}
 use Rattle.dart_meaning.specs.NumberedForm.{numbered_class, numbered_field, numbered_constructor}
 
@@ -71,7 +71,7 @@ form_of tree name o = record {
   parent = option_map (class_number tree) (parent_of o name);
   interfaces = map (class_number tree) (unwrap_or (option_map (λ (c : ClassDecl). map (λ (n : Name). n.text) c.interfaces) o) []);
   is_abstract = unwrap_or (option_map (λ (c : ClassDecl). c.is_abstract) o) false;
-  fields = map (numbered_field tree) (unwrap_or (option_map (λ (c : ClassDecl). filter_map field_of c.members) o) []);
+  fields = map (numbered_field tree) (declared_fields o);
   constructor = option_map (numbered_constructor tree name) (option_and_then (λ (c : ClassDecl). first_some (map constructor_in c.members)) o);
 }
 

@@ -3,5 +3,5 @@ use Rattle.small_program.specs.Small.{IsSmall}
 use Rattle.mega_tests.proofs.ChainFacts.{chain_is_small}
 use Rattle.mega_tests.proofs.chains.linked_of.Goals as goal
 
-pub number-program-requires : goal.number-program-requires
-number-program-requires c = subst IsSmall (sym c.in_ok-small.ensures) (chain_is_small c.args.count c.requires)
+pub number-requires : goal.number-requires
+number-requires c = subst IsSmall (sym c.in_ok-small.ensures) (chain_is_small c.args.count c.requires)
