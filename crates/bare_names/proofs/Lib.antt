@@ -1,0 +1,6 @@
+pub mod OpenNames
+pub mod SeenUses
+pub mod TopNames
+pub mod UsesAgree
+pub mod Bodies
+pub mod Trees
