@@ -29,12 +29,10 @@ none_open : Opens nothing_seen []
 none_open q ne = tt
 
 later : (s : Option Seen) (o : Option ℕ) → OpenBy s o → OpenBy s (option_map suc o)
-later None None h = tt
-later None (Some k) h = absurd h
-later (Some Late) None h = tt
-later (Some Late) (Some k) h = tt
-later (Some (Ready f)) (Some k) h = tt
-later (Some (Ready f)) None h = absurd h
+later s None h = h
+later None (Some k) h = h
+later (Some Late) (Some k) h = h
+later (Some (Ready f)) (Some k) h = h
 
 ready_step : (b f : Bool) (s : Option Seen) (o : Option ℕ) → OpenBy s o → OpenBy (if b then Some (Ready f) else s) (if b then Some 0 else option_map suc o)
 ready_step true f s o h = tt
@@ -43,9 +41,12 @@ ready_step false f s o h = later s o h
 pub opens_ready : (n : Name) (f : Bool) (scope : Scope) (names : List Text) → Opens scope names → Opens (with_seen n (Ready f) scope) (n.text ∷ names)
 opens_ready n f scope names h q ne = ready_step (bytes_eq n.text q) f (scope q) (index_of q names) (h q ne)
 
+late_open : (o : Option ℕ) → OpenBy (Some Late) o
+late_open None = tt
+late_open (Some k) = tt
+
 late_step : (b : Bool) (s : Option Seen) (o : Option ℕ) → OpenBy s o → OpenBy (if b then Some Late else s) o
-late_step true s None h = tt
-late_step true s (Some k) h = tt
+late_step true s o h = late_open o
 late_step false s o h = h
 
 pub opens_late : (n : Name) (scope : Scope) (names : List Text) → Opens scope names → Opens (with_seen n Late scope) names

@@ -1,10 +1,11 @@
 -- Each use of a bare name in the bodies of a tree, with what the text knows of names there and with the variables that are open in the run.
-use Rattle.std.specs.Prelude.{List, [], ◌∷◌, Option, None, Some}
+use Rattle.std.specs.Prelude.{◌≡◌, List, [], ◌∷◌, map, reverse, Option, None, Some}
 use Rattle.std.specs.Option.{option_map}
 use Rattle.dart_syntax.specs.Syntax as t
 use Rattle.dart_syntax.specs.Syntax.{ClassDecl, Member, Param, Passed, Top, Tree}
-use Rattle.dart_values.specs.Values.{Text}
+use Rattle.dart_values.specs.Values.{Text, Value}
 use Rattle.dart_meaning.specs.declared.seen.Seen.TheVariants.{Late}
+use Rattle.dart_meaning.specs.Meaning.{Bound, bind, unnamed}
 use Rattle.dart_meaning.specs.Numbering as run
 use Rattle.dart_meaning.specs.Numbering.{param_names, body_names}
 use Rattle.dart_meaning.specs.Uses as uses
@@ -12,6 +13,16 @@ use Rattle.dart_meaning.specs.Uses.{Kind, of_function, of_member, of_passed, of_
 use Rattle.static_rules.specs.Accepted.{IsAccepted}
 use Rattle.text_trees.specs.Written.{Each, IsWritten}
 use Rattle.bare_names.specs.Owners.{UseAgrees}
+
+-- ---- where a body begins
+
+-- The variables of an entered body have the names of its parameters, of which the last is the newest.
+abbrev pub BodiesBeginWithParameters : Type 0
+BodiesBeginWithParameters = (params : List Param) (args : List Value) → map (λ b. b.name) (reverse (bind params args)) ≡ param_names params
+
+-- In a constructor's body those of the parameters `this.x` have none.
+abbrev pub FieldParametersLoseTheirNames : Type 0
+FieldParametersLoseTheirNames = (params : List Param) (vars : List Bound) → map (λ b. b.name) vars ≡ param_names params → map (λ b. b.name) (unnamed (reverse params) vars) ≡ body_names params
 
 -- ---- in a part that stands in the class `here`, if any
 

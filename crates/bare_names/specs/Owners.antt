@@ -61,7 +61,7 @@ module _ (tree : Tree) (part : Part) (here : Option Text) (names : List Text) wh
     pub no_variable : (r : Run Bound) → names_of r ≡ names → is_some (find n.text r.vars) ≡ false
     pub called : owner_meant (means tree part n seen) ≡ Some (callee tree here n.text)
 
-  -- No text has an empty name; a parameter `this.x` is open under it in a constructor's body.
+  -- In a constructor's body each parameter `this.x` is open under the empty name, which no word of a text is: so each use is of a name that is not empty.
   abbrev pub UseAgrees : Use → Type 0
   UseAgrees (reads n seen) = (n.text ≡ [] → ⊥) → NameAgrees n seen
   UseAgrees (writes n seen) = (n.text ≡ [] → ⊥) → NameAgrees n seen
