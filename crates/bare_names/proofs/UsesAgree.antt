@@ -27,7 +27,7 @@ use Rattle.accepted_trees.proofs.RulesKept.{KeepsRules}
 use Rattle.accepted_trees.proofs.bodies.Each.{each_map, each_two}
 use Rattle.accepted_trees.proofs.bodies.RulesAtUses.{Throughout, at_none, or_none}
 use Rattle.accepted_trees.proofs.bodies.StaticNames.{not_false, unknown, variable_is}
-use Rattle.bare_names.specs.Owners.{CallAgrees, NameAgrees, UseAgrees, callee, is_callable, names_of, owner_meant}
+use Rattle.bare_names.specs.Owners.{CallAgrees, IsNamed, NameAgrees, UseAgrees, callee, is_callable, names_of, owner_meant}
 use Rattle.bare_names.proofs.OpenNames.{OpenBy, Opens}
 use Rattle.bare_names.proofs.SeenUses.{SeenBy}
 use Rattle.bare_names.proofs.TopNames.{callable, not_callable, variable_is_there}
@@ -138,11 +138,11 @@ module _ (tree : Tree) (kind : Kind) (class : Option ClassDecl) (all : List Use)
       (outside (own n) (top n) this (variable_there n) u
       (λ d e. a_variable n (variable_is (top_named tree n.text) (var (is_a_top n d e)))) (λ e. (unknown tree n.text e).variable))
 
-  module _ (scope : Scope) (names : List Text) (opens : Opens scope names) where
-    open_by : (n : Name) (seen : Option Seen) → seen ≡ scope n.text → (n.text ≡ [] → ⊥) → OpenBy seen (index_of n.text names)
+  module _ (scope : Scope) (names : List Text) (opens : Opens (IsNamed kind) scope names) where
+    open_by : (n : Name) (seen : Option Seen) → seen ≡ scope n.text → IsNamed kind n.text → OpenBy seen (index_of n.text names)
     open_by n seen e ne = subst (λ s. OpenBy s (index_of n.text names)) (sym e) (opens n.text ne)
 
-    name_agrees : (n : Name) (seen : Option Seen) → seen ≡ scope n.text → (n.text ≡ [] → ⊥) → is_undefined this (means tree in_part n seen) ≡ false
+    name_agrees : (n : Name) (seen : Option Seen) → seen ≡ scope n.text → IsNamed kind n.text → is_undefined this (means tree in_part n seen) ≡ false
         → (means tree in_part n seen ≡ a_top → is_variable (static_named tree n.text) ≡ true) → NameAgrees tree in_part here names n seen
     name_agrees n seen e ne u var site_of enter r same =
         subst (λ b. owner_meant (means tree in_part n seen) ≡ Some (owner_by b (class_declares tree here n.text) (variable_there n))) (sym (is_open n.text names r same))
@@ -165,7 +165,7 @@ module _ (tree : Tree) (kind : Kind) (class : Option ClassDecl) (all : List Use)
     closed n None e h r same = is_open n.text names r same ∙ ap is_some e
     closed n (Some k) e h r same = absurd h
 
-    call_agrees : (n : Name) (seen : Option Seen) → seen ≡ scope n.text → (n.text ≡ [] → ⊥) → is_undefined this (means tree in_part n seen) ≡ false
+    call_agrees : (n : Name) (seen : Option Seen) → seen ≡ scope n.text → IsNamed kind n.text → is_undefined this (means tree in_part n seen) ≡ false
         → is_torn_call tree n.text (means tree in_part n seen) ≡ false → makes_unmade tree n.text (means tree in_part n seen) ≡ false → CallAgrees tree in_part here names n seen
     call_agrees n (Some Late) e ne u torn a = absurd cc
     call_agrees n (Some (Ready f)) e ne u torn a = absurd cc
