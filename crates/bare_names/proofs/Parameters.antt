@@ -6,7 +6,7 @@ use Rattle.dart_syntax.specs.Syntax.{Param}
 use Rattle.dart_values.specs.Values.{Text, Value}
 use Rattle.dart_meaning.specs.Run.{choose}
 use Rattle.dart_meaning.specs.Meaning.{Bound, bind, unnamed}
-use Rattle.dart_meaning.specs.Numbering.{body_name, body_names, param_names}
+use Rattle.dart_meaning.specs.Numbering.{body_name}
 use Rattle.bare_names.specs.OpenVariables.{BodiesBeginWithParameters, FieldParametersLoseTheirNames}
 
 abbrev text_of : Param → Text

@@ -1,5 +1,5 @@
 -- What the text declares by a name, as the run finds it.
-use Rattle.std.proofs.Common.{◌≡◌, ℕ, ◌+◌, Bool, true, false, not, cond, ◌&&◌, ◌||◌, ◌⊎◌, inl, inr, List, [], ◌∷◌, map, find, filter_map, refl, ap, sym, ◌∙◌, subst, codes}
+use Rattle.std.proofs.Common.{◌≡◌, ℕ, ◌+◌, Bool, true, false, not, cond, ◌&&◌, ◌||◌, List, [], ◌∷◌, map, find, filter_map, refl, ap, ◌∙◌, codes}
 use Rattle.std.specs.Prelude.{Option, Some, None, is_some, unwrap_or, if◌then◌else◌}
 use Rattle.std.specs.Option.{option_map}
 use Rattle.std.specs.List.{position_from}
@@ -13,12 +13,12 @@ use Rattle.dart_meaning.specs.Place.{Place}
 use Rattle.dart_meaning.specs.Program.{Entry}
 use Rattle.dart_meaning.specs.Run.{M, choose}
 use Rattle.dart_meaning.specs.Classes.{Code, class_at, class_declares, class_named, first_some, function_at, function_named, if_so, is_abstract, is_constructed, object, variable_at, variable_place, variables}
-use Rattle.dart_meaning.specs.Meaning.{Bound, Owner, of_body, of_this, of_unit, call_bare, call_this, call_unit}
+use Rattle.dart_meaning.specs.Meaning.{Bound, Owner, of_this, of_unit, call_this, call_unit}
 use Rattle.dart_meaning.specs.Means.{is_built_in, is_top, print_name, top_named}
 use Rattle.static_rules.specs.AbstractMade.{is_unmade}
 use Rattle.static_rules.specs.Statics.{is_variable, static_of}
 use Rattle.accepted_trees.proofs.bodies.StaticNames.{has_name, cond_none, or_false, unknown}
-use Rattle.bare_names.specs.Owners.{CallsItsCallee, callee, is_callable}
+use Rattle.bare_names.specs.Owners.{CallsItsCallee, is_callable}
 
 -- ---- the first declaration of a name, among those of its kind
 

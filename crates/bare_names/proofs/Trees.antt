@@ -1,5 +1,5 @@
 -- So are those of each declaration of an accepted tree.
-use Rattle.std.proofs.Common.{◌≡◌, ◌⊎◌, inl, inr, Bool, true, false, List, [], ◌∷◌, ◌++◌, flat_map, filter_map, refl, ap}
+use Rattle.std.proofs.Common.{◌≡◌, inl, inr, Bool, true, false, List, [], ◌∷◌, ◌++◌, flat_map, filter_map, refl, ap}
 use Rattle.std.specs.Prelude.{Option, Some, None, if◌then◌else◌}
 use Rattle.std.specs.List.{list_any}
 use Rattle.dart_syntax.specs.Syntax as t
@@ -9,8 +9,7 @@ use Rattle.dart_meaning.specs.Classes.{class_at, class_declares, class_named, cl
 use Rattle.dart_meaning.specs.Numbering.{param_names, body_names}
 use Rattle.dart_meaning.specs.Uses as uses
 use Rattle.dart_meaning.specs.Uses.{Part, of_constructor, of_function, of_member, of_passed, class_parts, constructor_parts, field_uses, is_constructor, member_part, member_parts, nothing_seen, passed_uses, some_block_uses, top_parts, with_params, with_passed}
-use Rattle.static_rules.specs.Accepted.{IsAccepted}
-use Rattle.text_trees.specs.Written.{Each, IsPlainParam, IsWritten, IsWrittenMember, IsWrittenTop}
+use Rattle.text_trees.specs.Written.{Each, IsPlainParam, IsWrittenMember, IsWrittenTop}
 use Rattle.accepted_trees.proofs.RulesKept.{accepted_keeps, keeps_rules}
 use Rattle.accepted_trees.proofs.bodies.Each.{each_append}
 use Rattle.accepted_trees.proofs.classes.ClassRules.{KeepsClasses, named_first}

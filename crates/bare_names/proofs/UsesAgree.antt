@@ -1,5 +1,5 @@
 -- Each use of a bare name that breaks no rule is in the run what the text means by it.
-use Rattle.std.proofs.Common.{◌≡◌, ℕ, Bool, true, false, not, List, [], ◌∷◌, map, refl, ap, sym, ◌∙◌, subst}
+use Rattle.std.proofs.Common.{◌≡◌, ℕ, Bool, true, false, List, [], ◌∷◌, map, refl, ap, sym, ◌∙◌, subst}
 use Rattle.std.specs.Prelude.{Option, Some, None, is_some, if◌then◌else◌}
 use Rattle.dart_syntax.specs.declared.tree.Name.{Name}
 use Rattle.dart_syntax.specs.Syntax as t
@@ -9,13 +9,13 @@ use Rattle.dart_meaning.specs.declared.seen.Seen.{Seen}
 use Rattle.dart_meaning.specs.declared.seen.Seen.TheVariants.{Late, Ready}
 use Rattle.dart_meaning.specs.Run.{Run}
 use Rattle.dart_meaning.specs.Classes.{class_declares, is_own_member, variable_place}
-use Rattle.dart_meaning.specs.Meaning.{Bound, Owner, of_body, of_this, of_unit, find, owner_by}
-use Rattle.dart_meaning.specs.Means.{Means, a_top, beyond, has_this, is_top, means, top_named}
+use Rattle.dart_meaning.specs.Meaning.{Bound, Owner, of_this, of_unit, find, owner_by}
+use Rattle.dart_meaning.specs.Means.{a_top, beyond, has_this, is_top, means, top_named}
 use Rattle.dart_meaning.specs.Numbering.{index_of}
 use Rattle.dart_meaning.specs.Uses as uses
 use Rattle.dart_meaning.specs.Uses.{Kind, Part, Scope, Use, part}
 use Rattle.dart_meaning.proofs.Slots.{FoundAt, found_at}
-use Rattle.static_rules.specs.AbstractMade.{abstract_in, abstract_made, is_unmade, makes_unmade}
+use Rattle.static_rules.specs.AbstractMade.{abstract_in, abstract_made, makes_unmade}
 use Rattle.static_rules.specs.FinalWritten.{final_in, final_written, is_fixed, is_fixed_static}
 use Rattle.static_rules.specs.InParts.{in_parts}
 use Rattle.static_rules.specs.Places.{Fault, first_in}

@@ -1,5 +1,5 @@
 -- Worked rows: which variables are open at the uses of `{ var x = y; x; }` with a parameter `y`, and in the body of a constructor with a parameter `this.y`.
-use Rattle.std.proofs.Common.{◌≡◌, true, false, List, [], ◌∷◌, codes}
+use Rattle.std.proofs.Common.{true, false, [], ◌∷◌, codes}
 use Rattle.std.specs.Prelude.{Bool, Some, None}
 use Rattle.dart_syntax.specs.declared.tree.Name.{Name}
 use Rattle.dart_syntax.specs.Bytes.{span}
@@ -8,7 +8,7 @@ use Rattle.dart_syntax.specs.Syntax as t
 use Rattle.dart_syntax.specs.Syntax.{ClassDecl, Param, Tree}
 use Rattle.dart_values.specs.Values.{Text}
 use Rattle.dart_meaning.specs.declared.seen.Seen.TheVariants.{Ready}
-use Rattle.dart_meaning.specs.Uses.{Part, of_function, of_constructor, part}
+use Rattle.dart_meaning.specs.Uses.{of_function, of_constructor, part}
 use Rattle.bare_names.specs.Owners.{NameAgrees}
 use Rattle.bare_names.specs.OpenVariables.{CodeAgrees, ConstructorBodyAgrees}
 
