@@ -48,7 +48,7 @@ CallsItsCallee =
 
 -- ---- where both agree
 
--- In a constructor's body each parameter `this.x` is open under the empty name, which no word of a text is. So a use there is of another name.
+-- In a constructor's body each parameter `this.x` is open under the empty name, which no word of a text is. What is said of uses there is said of the other names.
 abbrev pub IsNamed : Kind → Text → Type 0
 IsNamed of_constructor name = name ≡ [] → ⊥
 IsNamed _ name = Unit {0}
@@ -66,6 +66,7 @@ module _ (tree : Tree) (part : Part) (here : Option Text) (names : List Text) wh
     pub no_variable : (r : Run Bound) → names_of r ≡ names → is_some (find n.text r.vars) ≡ false
     pub called : owner_meant (means tree part n seen) ≡ Some (callee tree here n.text)
 
+  -- A use of a bare name; the other uses have none.
   abbrev pub UseAgrees : Use → Type 0
   UseAgrees (reads n seen) = IsNamed part.kind n.text → NameAgrees n seen
   UseAgrees (writes n seen) = IsNamed part.kind n.text → NameAgrees n seen

@@ -4,9 +4,10 @@
 ghost use Rattle.bare_names.specs.OpenVariables.{BodiesBeginWithParameters, FieldParametersLoseTheirNames, NamesAgree};
 ghost use Rattle.bare_names.specs.Owners.{CallsItsCallee};
 
-/// At each use in a body, with the variables that are open there, the run takes a name to be of the
-/// body exactly where the text means a local or a parameter, of `this` exactly where it means a
-/// member, and else a declaration of the text.
+/// At each use in a body of an accepted tree, with the variables that are open there, the run takes
+/// a name to be of the body exactly where the text means a local or a parameter, of `this` exactly
+/// where it means a member, and of the unit exactly where it means a declaration of the text: a
+/// variable, or what is called.
 pub fn bare_names_mean_what_the_text_says()
     ensures { NamesAgree }
 {}
