@@ -3,10 +3,13 @@ use Rattle.std.proofs.Common.{◌≡◌, ◌≢◌, ℕ, ◌==◌, List, [], ◌
 use Rattle.std.proofs.lemmas.Bool.Decides.{nat_tests}
 use Rattle.std.specs.Prelude.{slice_get, option_and_then, option_to_list}
 use Rattle.program.specs.declared.body.Expression.{Expression}
+use Rattle.program.specs.declared.body.Expression.TheVariants as e
+use Rattle.program.specs.declared.body.Expression.TheFolds.{fold_out-Expression}
 use Rattle.program.specs.declared.body.SiteCall.{SiteCall}
 use Rattle.program.specs.declared.numbered.Function.{Function}
 use Rattle.program.specs.declared.numbered.Numbered.{Numbered}
-use Rattle.program.specs.Bodies.{exp, exps, calls, sta}
+use Rattle.program.specs.Bodies as body
+use Rattle.program.specs.Bodies.{Exp, exp, exp_step, exps, calls, sta}
 use Rattle.program.specs.Parts.{Parts}
 use Rattle.std.specs.List.{position_from}
 use Rattle.program.specs.Program.{entry_named, is_entry_named}
@@ -14,7 +17,7 @@ use Rattle.small_program.specs.Numbering.{main_of, statements_from}
 use Rattle.small_program.proofs.Views.{statement_is}
 use Rattle.first_form.specs.declared.form.PrintStmt.{PrintStmt}
 use Rattle.first_form.specs.declared.form.Form.{Form}
-use Rattle.first_run.specs.Calls.{no_exps, alone, site_call, site_alone, call_in, calls_in, function_calls, calls_of}
+use Rattle.first_run.specs.Calls.{no_exps, made, alone, site_call, site_alone, call_at, sent, call_in, calls_in, function_calls, calls_of}
 use Rattle.first_run.specs.Numbering.{small_print, small_of, body_from, IsProgramOf}
 
 pub exps_none : (args : List Expression) → (length args == 0) ≡ no_exps (exps (map exp args))
@@ -30,6 +33,12 @@ pub alone_none : (ks : List (SiteCall Expression)) → length ks ≢ 1 → alone
 alone_none [] h = refl
 alone_none (x ∷ []) h = absurd (h refl)
 alone_none (x ∷ y ∷ more) h = refl
+
+postfix_is : (x : Expression) (more : List (SiteCall Expression)) → exp (e.Postfix x more) ≡ body.postfix (exp x) (calls (map site_call more))
+postfix_is x more = fold_out-Expression Exp exp_step (e.Postfix x more) ∙ rw (e.outs-Postfix x more) refl
+
+pub sent_postfix : (x : Expression) (more : List (SiteCall Expression)) → sent (exp (e.Postfix x more)) ≡ call_at (alone (calls (map site_call more))) (made (exp x))
+sent_postfix x more = ap sent (postfix_is x more)
 
 statements_print : (source : List ℕ) (j : ℕ) (prints : List PrintStmt) → calls_in (map sta (statements_from j (map (small_print source) prints))) ≡ body_from j prints
 statements_print source j [] = refl

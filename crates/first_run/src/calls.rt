@@ -83,6 +83,7 @@ fn call_at(site: Option<SiteId>, class: Option<ClassId>) -> Option<PrintCall>
 }
 
 /// `C().m()`
+#[tactic(auto, using(crate::proofs::CallFacts::sent_postfix))]
 fn sent(e: &Expression) -> Option<PrintCall>
     ensures { result ≡ sent (exp e.now) }
 {
