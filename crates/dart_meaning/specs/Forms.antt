@@ -17,6 +17,7 @@ use Rattle.program.specs.Parts.{Parts}
 use Rattle.dart_values.specs.Values.{Text, Value}
 use Rattle.dart_meaning.specs.Literals.{literal}
 
+-- a body: the expression behind `=>`, or the statements of a block
 pub data BodyForm : Type 0 where
   arrow : c.Exp → BodyForm
   block : c.Stas → BodyForm
@@ -34,6 +35,7 @@ pub record FieldForm : Type 0 where
   pub name : Text
   pub value : Value
 
+-- Interfaces stand in the order of the text. A class that none can construct has no constructor.
 pub record ClassForm : Type 0 where
   pub name : Text
   pub parent : Option ℕ
@@ -42,10 +44,12 @@ pub record ClassForm : Type 0 where
   pub fields : List FieldForm
   pub constructor : Option ConstructorForm
 
+-- what a member does: a built-in one by its number, one that reads or writes the field of this number, or one with a body
 pub data DoesForm : Type 0 where
   native reads_field writes_field : ℕ → DoesForm
   runs : BodyForm → DoesForm
 
+-- a member of the class `owner`: with a body, for a field, or built in
 pub record MethodForm : Type 0 where
   pub owner : ℕ
   pub role : SelectorKind
@@ -54,6 +58,7 @@ pub record MethodForm : Type 0 where
   pub defaults : List Value
   pub does : DoesForm
 
+-- A function at the top of the text; an entry point is marked with `@pragma`.
 pub record FunctionForm : Type 0 where
   pub name : Text
   pub is_entry : Bool
@@ -61,6 +66,7 @@ pub record FunctionForm : Type 0 where
   pub defaults : List Value
   pub body : BodyForm
 
+-- the program: its tables, in each of which a number is a place
 pub record Form : Type 0 where
   pub classes : List ClassForm
   pub methods : List MethodForm
@@ -71,10 +77,12 @@ pub record Form : Type 0 where
 
 -- ---- what the types of a numbered program hold
 
+-- a body's expression or statements
 abbrev pub body_form : Body → BodyForm
 body_form (body.Arrow e) = arrow (c.exp e)
 body_form (body.Block all) = block (c.stas (map c.sta all))
 
+-- a constructor: what it takes, sets, passes on and does
 abbrev pub constructor_form : Constructor → ConstructorForm
 constructor_form k = record {
   required = k.required;
@@ -84,9 +92,11 @@ constructor_form k = record {
   body = c.stas (map c.sta k.body);
 }
 
+-- a field with the value of its literal
 abbrev pub field_form : Field → FieldForm
 field_form f = record { name = f.name; value = literal f.value }
 
+-- a class, with numbers in place of ids
 abbrev pub class_form : Class → ClassForm
 class_form k = record {
   name = k.name;
@@ -97,12 +107,14 @@ class_form k = record {
   constructor = option_map constructor_form k.constructor;
 }
 
+-- what a member does
 abbrev pub does_form : MethodBody → DoesForm
 does_form (does.Native n) = native n.0
 does_form (does.ReadField field) = reads_field field
 does_form (does.WriteField field) = writes_field field
 does_form (does.Code b) = runs (body_form b)
 
+-- a member, with numbers in place of ids
 abbrev pub method_form : Method → MethodForm
 method_form m = record {
   owner = m.owner.0;
@@ -113,6 +125,7 @@ method_form m = record {
   does = does_form m.body;
 }
 
+-- a function, with the values of its defaults
 abbrev pub function_form : Function → FunctionForm
 function_form f = record {
   name = f.name;

@@ -1,7 +1,6 @@
 -- The numbered program of a tree: classes by their numbers, members and functions in the order of the text, sites by their places, selectors by their first use.
 use Rattle.std.specs.Prelude.{◌≡◌, ℕ, ◌+◌, nat_le, Bool, true, false, if◌then◌else◌, List, [], ◌∷◌, ◌++◌, length, map, take, flat_map, filter_map, position, Option, Some, None, unwrap_or}
 use Rattle.std.specs.Option.{option_map, option_and_then}
-use Rattle.std.specs.List.{list_any}
 use Rattle.dart_syntax.specs.declared.tree.Name.{Name}
 use Rattle.dart_syntax.specs.Syntax as t
 use Rattle.dart_syntax.specs.Syntax.{Tree, Param, Body, Local, Function, Member, ClassDecl}
@@ -19,7 +18,7 @@ use Rattle.dart_meaning.specs.Operators.{operator_name}
 use Rattle.dart_meaning.specs.Classes.{classes, functions, variables, class_named, class_names, class_number, parent, interfaces_of, is_abstract, own_fields, field_place, required, constructor_in, first_some, if_so}
 use Rattle.dart_meaning.specs.Literals.{literal_or_null}
 use Rattle.dart_meaning.specs.Classes as classes
-use Rattle.dart_meaning.specs.Sites.{Site, key, text_sites, prelude_sites, same_selector, site_of}
+use Rattle.dart_meaning.specs.Sites.{Site, key, text_sites, prelude_sites, same_selector, each_once, site_of}
 use Rattle.dart_meaning.specs.Entry.{globals_of}
 use Rattle.dart_meaning.specs.Numbering as num
 use Rattle.dart_meaning.specs.Forms.{Form, ClassForm, FieldForm, ConstructorForm, MethodForm, FunctionForm, DoesForm, BodyForm, reads_field, writes_field, runs, arrow, block, method_form, form_of}
@@ -47,17 +46,9 @@ in_order (s ∷ more) = among s (in_order more)
 unfoldable pub ordered_sites : Tree → List Site
 ordered_sites tree = in_order (text_sites tree) ++ prelude_sites
 
--- each selector once, where it is used first
-abbrev pub also_used : List Selector → List Selector → List Selector
-also_used known [] = known
-also_used known (sel ∷ more) = also_used (if list_any (same_selector sel) known then known else known ++ sel ∷ []) more
-
-abbrev pub first_uses : List Selector → List Selector
-first_uses uses = also_used [] uses
-
 -- the selectors by their numbers
 unfoldable pub numbered_selectors : Tree → List Selector
-numbered_selectors tree = first_uses (map (λ (s : Site). s.selector) (ordered_sites tree))
+numbered_selectors tree = each_once (map (λ (s : Site). s.selector) (ordered_sites tree))
 
 abbrev pub selector_number : Tree → Selector → ℕ
 selector_number tree sel = unwrap_or (position (same_selector sel) (numbered_selectors tree)) 0

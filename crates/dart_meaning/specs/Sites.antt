@@ -79,11 +79,15 @@ site_at tree number = find (λ s. nat_eq (site_of tree s.place) number) (sites t
 abbrev pub same_selector : Selector → Selector → Bool
 same_selector x y = same_kind x.kind y.kind && bytes_eq x.name y.name && nat_eq x.count y.count
 
--- each once
-abbrev pub distinct : List Selector → List Selector
-distinct [] = []
-distinct (x ∷ more) = if list_any (same_selector x) more then distinct more else x ∷ distinct more
+-- the selectors so far, and behind them each of a list that is not among them
+abbrev pub also_used : List Selector → List Selector → List Selector
+also_used known [] = known
+also_used known (sel ∷ more) = also_used (if list_any (same_selector sel) known then known else known ++ sel ∷ []) more
+
+-- each selector once, where it is used first
+abbrev pub each_once : List Selector → List Selector
+each_once uses = also_used [] uses
 
 -- the selectors that the sites call
 abbrev pub selectors : Tree → List Selector
-selectors tree = distinct (map (λ (s : Site). s.selector) (sites tree))
+selectors tree = each_once (map (λ (s : Site). s.selector) (sites tree))

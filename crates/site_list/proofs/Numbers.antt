@@ -8,8 +8,8 @@ use Rattle.program.specs.declared.numbered.SitePlace as program_place
 use Rattle.dart_syntax.specs.Syntax.{Tree}
 use Rattle.dart_values.specs.Values.{Text}
 use Rattle.dart_meaning.specs.Program.{to_string}
-use Rattle.dart_meaning.specs.Sites.{Site, same_selector, selectors, text_sites, prelude_sites}
-use Rattle.dart_meaning.specs.NumberedForm.{in_order, ordered_sites, numbered_selectors, numbered_site, shown_place, also_used, first_uses}
+use Rattle.dart_meaning.specs.Sites.{Site, same_selector, also_used, each_once, selectors, text_sites, prelude_sites}
+use Rattle.dart_meaning.specs.NumberedForm.{in_order, ordered_sites, numbered_selectors, numbered_site, shown_place}
 use Rattle.accepted_trees.proofs.sites.Selectors.{is_in, in_used, selector_self, position_there, used_append, used_twice, used_place, used_longer, used_kept}
 use Rattle.accepted_trees.proofs.sites.TextSites.{all_from, all_append, all_map, all_in_order, get_map}
 use Rattle.accepted_trees.proofs.sites.Tables.{any_from, all_used, as_many_selectors}
@@ -63,7 +63,7 @@ all_asked_is tree sites e =
 
 pub selectors_is : (tree : Tree) (sites : List SourceSite) → listed sites ≡ in_order (text_sites tree) → also_used (also_used [] (asked sites)) (to_string ∷ to_string ∷ []) ≡ numbered_selectors tree
 unfolding numbered_selectors
-selectors_is tree sites e = used_append [] (asked sites) (to_string ∷ to_string ∷ []) ∙ ap first_uses (all_asked_is tree sites e)
+selectors_is tree sites e = used_append [] (asked sites) (to_string ∷ to_string ∷ []) ∙ ap each_once (all_asked_is tree sites e)
 
 pub few_last : (tree : Tree) (sites : List SourceSite) → AreLimited tree sites → length (also_used (also_used [] (asked sites)) (to_string ∷ [])) ≤ 2048
 few_last tree sites limited =

@@ -7,9 +7,8 @@ use Rattle.program.specs.declared.numbered.SelectorKind.{SelectorKind}
 use Rattle.program.specs.declared.numbered.SelectorKind.TheVariants.{Call, Get, Set}
 use Rattle.dart_syntax.specs.Syntax.{Tree}
 use Rattle.dart_meaning.specs.Program.{to_string}
-use Rattle.dart_meaning.specs.Sites.{Site, same_selector, distinct, text_sites, prelude_sites, selectors}
-use Rattle.dart_meaning.specs.NumberedForm.{also_used, first_uses}
-use Rattle.accepted_trees.proofs.sites.Selectors.{as_many, used_append, used_twice}
+use Rattle.dart_meaning.specs.Sites.{Site, same_selector, also_used, each_once, text_sites, prelude_sites, selectors}
+use Rattle.accepted_trees.proofs.sites.Selectors.{used_append, used_twice}
 use Rattle.site_list.specs.declared.site.SourceSelector.{SourceSelector}
 use Rattle.site_list.specs.declared.site.SourceSite.{SourceSite}
 use Rattle.site_list.specs.contracts.site.SourceSelectorPartialEq.TheImpl as the
@@ -72,6 +71,6 @@ pub counted : (tree : Tree) (all : List SourceSite) (keys : List SourceSelector)
 counted tree all keys e h =
     let told : map (λ (s : Site). s.selector) (text_sites tree ++ prelude_sites) ≡ asked all ++ to_string ∷ to_string ∷ []
     = map_append (λ (s : Site). s.selector) (text_sites tree) prelude_sites ∙ ap (λ ys. ys ++ to_string ∷ to_string ∷ []) (sym (asked_is all ∙ ap (map (λ (s : Site). s.selector)) e)) in
-    let uses : map selector_of keys ≡ first_uses (asked all ++ to_string ∷ to_string ∷ [])
+    let uses : map selector_of keys ≡ each_once (asked all ++ to_string ∷ to_string ∷ [])
     = h ∙ sym (used_twice (also_used [] (asked all)) to_string) ∙ used_append [] (asked all) (to_string ∷ to_string ∷ []) in
-    sym (length_map selector_of keys) ∙ ap length uses ∙ as_many (asked all ++ to_string ∷ to_string ∷ []) (asked all ++ to_string ∷ to_string ∷ []) (λ x. refl) ∙ ap (λ ys. length (distinct ys)) (sym told)
+    sym (length_map selector_of keys) ∙ ap length uses ∙ ap (λ ys. length (each_once ys)) (sym told)

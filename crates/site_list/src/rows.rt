@@ -4,8 +4,7 @@ ghost use Rattle.std.specs.Prelude.{◌≡◌, ◌-◌, ◌^◌, ◌<◌, ◌≤
 ghost use Rattle.dart_meaning.specs.Program.{to_string};
 ghost use Rattle.std.specs.List.{position_or_len};
 ghost use Rattle.dart_values.specs.Values.{Text};
-ghost use Rattle.dart_meaning.specs.Sites.{same_selector, prelude_sites};
-ghost use Rattle.dart_meaning.specs.NumberedForm.{also_used};
+ghost use Rattle.dart_meaning.specs.Sites.{same_selector, also_used, prelude_sites};
 ghost use Rattle.site_list.specs.Rows.{Stands, row_in};
 ghost use Rattle.site_list.specs.SourceSites.{selector_of, site_of_source, listed, asked, held};
 

@@ -2,8 +2,7 @@
 
 ghost use Rattle.std.specs.Prelude.{◌≡◌, [], ◌∷◌, IfOk, OnOk};
 ghost use Rattle.std.specs.List.{position_or_len};
-ghost use Rattle.dart_meaning.specs.Sites.{same_selector};
-ghost use Rattle.dart_meaning.specs.NumberedForm.{also_used};
+ghost use Rattle.dart_meaning.specs.Sites.{same_selector, also_used};
 ghost use Rattle.site_list.specs.SourceSites.{selector_of, held, asked};
 
 use crate::site::{SourceSelector, SourceSite};

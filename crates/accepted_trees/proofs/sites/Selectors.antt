@@ -10,8 +10,7 @@ use Rattle.program.specs.declared.numbered.SelectorKind.{SelectorKind}
 use Rattle.program.specs.declared.numbered.SelectorKind.TheVariants.{Call, Get, Set}
 use Rattle.program.specs.Lookup.{same_kind}
 use Rattle.program.proofs.BuiltInSound.{bytes_same, same_bytes}
-use Rattle.dart_meaning.specs.Sites.{same_selector, distinct}
-use Rattle.dart_meaning.specs.NumberedForm.{also_used, first_uses}
+use Rattle.dart_meaning.specs.Sites.{same_selector, also_used, each_once}
 
 -- ---- a test of equality
 
@@ -191,26 +190,9 @@ once_used : (known uses : List Selector) → Once same_selector selectors_one se
 once_used known [] o = o
 once_used known (sel ∷ more) o = once_used (with_one known sel) more (once_with sel known o)
 
-in_distinct : (x : Selector) (xs : List Selector) → is_in x (distinct xs) ≡ is_in x xs
-in_distinct x [] = refl
-in_distinct x (y ∷ more) = (elim (is_in y more) as (λ b. is_in y more ≡ b → is_in x (cond b (distinct more) (y ∷ distinct more)) ≡ (same_selector x y || is_in x more)) [
-  | true ↦ λ is. in_distinct x more ∙ (elim (same_selector x y) as (λ b. same_selector x y ≡ b → is_in x more ≡ (b || is_in x more)) [
-    | true ↦ λ e. ap (λ w. is_in w more) (selectors_one x y e) ∙ is
-    | false ↦ λ e. refl
-  ]) refl
-  | false ↦ λ is. ap (λ b. same_selector x y || b) (in_distinct x more)
-]) refl
-
-once_distinct : (xs : List Selector) → Once same_selector selectors_one selector_self (distinct xs)
-once_distinct [] = tt
-once_distinct (y ∷ more) = (elim (is_in y more) as (λ b. is_in y more ≡ b → Once same_selector selectors_one selector_self (cond b (distinct more) (y ∷ distinct more))) [
-  | true ↦ λ is. once_distinct more
-  | false ↦ λ is. (in_distinct y more ∙ is, once_distinct more)
-]) refl
-
--- Each once, wherever it is kept: there are as many.
-pub as_many : (xs ys : List Selector) → ((x : Selector) → is_in x xs ≡ is_in x ys) → length (first_uses xs) ≡ length (distinct ys)
-as_many xs ys h = same_length same_selector selectors_one selector_self (first_uses xs) (distinct ys) (once_used [] xs tt) (once_distinct ys) (λ x. in_used x [] xs ∙ h x ∙ sym (in_distinct x ys))
+-- Lists with the same selectors, in whatever order: there are as many.
+pub as_many : (xs ys : List Selector) → ((x : Selector) → is_in x xs ≡ is_in x ys) → length (each_once xs) ≡ length (each_once ys)
+as_many xs ys h = same_length same_selector selectors_one selector_self (each_once xs) (each_once ys) (once_used [] xs tt) (once_used [] ys tt) (λ x. in_used x [] xs ∙ h x ∙ sym (in_used x [] ys))
 
 pub used_append : (known xs ys : List Selector) → also_used (also_used known xs) ys ≡ also_used known (xs ++ ys)
 used_append known [] ys = refl

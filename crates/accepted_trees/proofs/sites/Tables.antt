@@ -18,12 +18,12 @@ use Rattle.dart_syntax.specs.Syntax.{Tree}
 use Rattle.dart_values.specs.Values.{Text}
 use Rattle.dart_meaning.specs.Place.{Place, reading, writing, in_print, in_list}
 use Rattle.dart_meaning.specs.Program.{to_string}
-use Rattle.dart_meaning.specs.Sites.{Site, site, same_selector, sites, selectors, text_sites, prelude_sites, site_of}
+use Rattle.dart_meaning.specs.Sites.{Site, site, same_selector, also_used, sites, selectors, text_sites, prelude_sites, site_of}
 use Rattle.static_rules.specs.Accepted.{Counts, counts, exceeded, first_over, most}
 use Rattle.static_rules.specs.declared.rule.Limit.{Limit}
 use Rattle.static_rules.specs.declared.rule.Limit.TheVariants as limit
 use Rattle.dart_meaning.specs.Forms.{Form}
-use Rattle.dart_meaning.specs.NumberedForm.{in_order, ordered_sites, numbered_selectors, selector_number, numbered_site, shown_place, also_used, IsNumberedOf}
+use Rattle.dart_meaning.specs.NumberedForm.{in_order, ordered_sites, numbered_selectors, selector_number, numbered_site, shown_place, IsNumberedOf}
 use Rattle.accepted_trees.proofs.sites.Selectors.{is_in, with_one, in_used, as_many, selector_self, selector_there}
 use Rattle.accepted_trees.proofs.sites.TextSites.{InText, OfText, of_text, PlacesDiffer, all_at, all_from, all_append, all_map, get_front, get_behind, get_map, order_moves, site_there, all_in_order}
 

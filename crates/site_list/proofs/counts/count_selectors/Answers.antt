@@ -1,5 +1,5 @@
 use Rattle.std.proofs.Common.{◌∙◌, [], ◌∷◌, map, ap}
-use Rattle.dart_meaning.specs.NumberedForm.{also_used}
+use Rattle.dart_meaning.specs.Sites.{also_used}
 use Rattle.site_list.specs.SourceSites.{selector_of, asked}
 use Rattle.site_list.proofs.Sets.{counted}
 use Rattle.site_list.proofs.counts.count_selectors.Goals as goal

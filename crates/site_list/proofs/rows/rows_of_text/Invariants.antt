@@ -1,5 +1,5 @@
 use Rattle.std.proofs.Common.{◌≡◌, ◌++◌, drop, map}
-use Rattle.dart_meaning.specs.NumberedForm.{also_used}
+use Rattle.dart_meaning.specs.Sites.{also_used}
 use Rattle.site_list.specs.Rows.{Stands, row_in}
 use Rattle.site_list.specs.SourceSites.{listed, asked, held}
 use Rattle.site_list.proofs.rows.rows_of_text.Given as goal

@@ -1,5 +1,5 @@
 use Rattle.std.proofs.Common.{◌≡◌, drop}
-use Rattle.dart_meaning.specs.NumberedForm.{also_used}
+use Rattle.dart_meaning.specs.Sites.{also_used}
 use Rattle.site_list.specs.SourceSites.{held, asked}
 use Rattle.site_list.proofs.selectors.note_all.Given as goal
 

@@ -1,7 +1,7 @@
 use Rattle.std.proofs.Common.{◌≡◌, ◌∙◌, ◌∷◌, [], ◌++◌, ◌≤◌, length, map, ap, sym, subst}
 use Rattle.dart_meaning.specs.Program.{to_string}
 use Rattle.dart_meaning.specs.Sites.{prelude_sites}
-use Rattle.dart_meaning.specs.NumberedForm.{also_used}
+use Rattle.dart_meaning.specs.Sites.{also_used}
 use Rattle.site_list.specs.Rows.{row_in}
 use Rattle.site_list.specs.SourceSites.{selector_of, listed, asked, held}
 use Rattle.site_list.proofs.Numbers.{few_first, few_last, fitting, selectors_is, all_rows}
