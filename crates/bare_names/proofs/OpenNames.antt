@@ -21,9 +21,13 @@ OpenBy None (Some k) = ⊥
 OpenBy (Some (Ready is_final)) None = ⊥
 OpenBy _ _ = Unit {0}
 
--- so for each name of this kind
-abbrev pub Opens : (Text → Type 0) → Scope → List Text → Type 0
-Opens N scope names = (q : Text) → N q → OpenBy (scope q) (index_of q names)
+-- the name of a variable; a parameter `this.x` is open in a constructor's body without one
+abbrev pub IsNamed : Text → Type 0
+IsNamed q = q ≡ [] → ⊥
+
+-- so for each name
+abbrev pub Opens : Scope → List Text → Type 0
+Opens scope names = (q : Text) → IsNamed q → OpenBy (scope q) (index_of q names)
 
 later : (s : Option Seen) (o : Option ℕ) → OpenBy s o → OpenBy s (option_map suc o)
 later s None h = h
@@ -61,83 +65,56 @@ plain_all : (params : List Param) → Each IsPlainParam params → map body_name
 plain_all [] h = refl
 plain_all (k ∷ more) (h, rest) = rw (plain_one k k.is_field h.no_field, plain_all more rest) refl
 
-module _ (N : Text → Type 0) where
-  none_open : Opens N nothing_seen []
-  none_open q ne = tt
+none_open : Opens nothing_seen []
+none_open q ne = tt
 
-  pub opens_ready : (n : Name) (f : Bool) (scope : Scope) (names : List Text) → Opens N scope names → Opens N (with_seen n (Ready f) scope) (n.text ∷ names)
-  opens_ready n f scope names h q ne = ready_step (bytes_eq n.text q) f (scope q) (index_of q names) (h q ne)
+pub opens_ready : (n : Name) (f : Bool) (scope : Scope) (names : List Text) → Opens scope names → Opens (with_seen n (Ready f) scope) (n.text ∷ names)
+opens_ready n f scope names h q ne = ready_step (bytes_eq n.text q) f (scope q) (index_of q names) (h q ne)
 
-  pub opens_late : (n : Name) (scope : Scope) (names : List Text) → Opens N scope names → Opens N (with_seen n Late scope) names
-  opens_late n scope names h q ne = late_step (bytes_eq n.text q) (scope q) (index_of q names) (h q ne)
+pub opens_late : (n : Name) (scope : Scope) (names : List Text) → Opens scope names → Opens (with_seen n Late scope) names
+opens_late n scope names h q ne = late_step (bytes_eq n.text q) (scope q) (index_of q names) (h q ne)
 
-  pub opens_locals : (all : List Name) (scope : Scope) (names : List Text) → Opens N scope names → Opens N (opened all scope) names
-  opens_locals [] scope names h = h
-  opens_locals (n ∷ more) scope names h = opens_locals more (with_seen n Late scope) names (opens_late n scope names h)
+pub opens_locals : (all : List Name) (scope : Scope) (names : List Text) → Opens scope names → Opens (opened all scope) names
+opens_locals [] scope names h = h
+opens_locals (n ∷ more) scope names h = opens_locals more (with_seen n Late scope) names (opens_late n scope names h)
 
-  -- ---- behind a statement
+-- ---- behind a statement
 
-  pub opens_after : (s : t.Sta) (scope : Scope) (names : List Text) → Opens N scope names → Opens N (uses.after s scope) (run.after names s)
-  opens_after (t.local x) scope names h = opens_ready x.name x.is_final scope names h
-  opens_after _ scope names h = h
+pub opens_after : (s : t.Sta) (scope : Scope) (names : List Text) → Opens scope names → Opens (uses.after s scope) (run.after names s)
+opens_after (t.local x) scope names h = opens_ready x.name x.is_final scope names h
+opens_after _ scope names h = h
 
-  pub opens_first : (s : t.First) (scope : Scope) (names : List Text) → Opens N scope names → Opens N (uses.after_first s scope) (run.after_first names s)
-  opens_first (t.local_first x) scope names h = opens_ready x.name x.is_final scope names h
-  opens_first _ scope names h = h
+pub opens_first : (s : t.First) (scope : Scope) (names : List Text) → Opens scope names → Opens (uses.after_first s scope) (run.after_first names s)
+opens_first (t.local_first x) scope names h = opens_ready x.name x.is_final scope names h
+opens_first _ scope names h = h
 
-  -- ---- parameters
+-- ---- parameters
 
-  -- No name of the kind is empty.
-  abbrev NoneEmpty : Type 0
-  NoneEmpty = (q : Text) → N q → q ≡ [] → ⊥
+param_step : (k : Param) (is_field : Bool) (scope : Scope) (names : List Text) → Opens scope names
+    → Opens (if is_field then scope else with_seen k.name (Ready k.is_final) scope) ((if is_field then [] else k.name.text) ∷ names)
+param_step k true scope names h q ne = unnamed_step q names (scope q) ne (h q ne)
+param_step k false scope names h q ne = opens_ready k.name k.is_final scope names h q ne
 
-  abbrev FieldsApart : Param → Type 0
-  FieldsApart k = k.is_field ≡ true → NoneEmpty
+body_from : (params : List Param) (scope : Scope) (names : List Text) → Opens scope names → Opens (with_params params scope) (reverse (map body_name params) ++ names)
+body_from [] scope names h = h
+body_from (k ∷ more) scope names h =
+    subst (λ l. Opens (with_params more (with_param k scope)) l) (reversed (body_name k) (map body_name more) names)
+    (body_from more (with_param k scope) (body_name k ∷ names) (param_step k k.is_field scope names h))
 
-  param_step : (k : Param) (is_field : Bool) (scope : Scope) (names : List Text) → (is_field ≡ true → NoneEmpty) → Opens N scope names
-      → Opens N (if is_field then scope else with_seen k.name (Ready k.is_final) scope) ((if is_field then [] else k.name.text) ∷ names)
-  param_step k true scope names apart h q ne = unnamed_step q names (scope q) (apart refl q ne) (h q ne)
-  param_step k false scope names apart h q ne = opens_ready k.name k.is_final scope names h q ne
+-- in a body
+pub opens_body : (params : List Param) → Opens (with_params params nothing_seen) (body_names params)
+opens_body params = subst (λ l. Opens (with_params params nothing_seen) l) (append-nil (body_names params)) (body_from params nothing_seen [] none_open)
 
-  body_from : (params : List Param) (scope : Scope) (names : List Text) → Each FieldsApart params → Opens N scope names → Opens N (with_params params scope) (reverse (map body_name params) ++ names)
-  body_from [] scope names apart h = h
-  body_from (k ∷ more) scope names (apart, others) h =
-      subst (λ l. Opens N (with_params more (with_param k scope)) l) (reversed (body_name k) (map body_name more) names)
-      (body_from more (with_param k scope) (body_name k ∷ names) others (param_step k k.is_field scope names apart h))
+passed_from : (params : List Param) (scope : Scope) (names : List Text) → Opens scope names → Opens (with_passed params scope) (reverse (map text_of params) ++ names)
+passed_from [] scope names h = h
+passed_from (k ∷ more) scope names h =
+    subst (λ l. Opens (with_passed more (with_seen k.name (Ready (k.is_field || k.is_final)) scope)) l) (reversed k.name.text (map text_of more) names)
+    (passed_from more (with_seen k.name (Ready (k.is_field || k.is_final)) scope) (k.name.text ∷ names) (opens_ready k.name (k.is_field || k.is_final) scope names h))
 
-  -- in a body
-  pub opens_fields : (params : List Param) → Each FieldsApart params → Opens N (with_params params nothing_seen) (body_names params)
-  opens_fields params apart = subst (λ l. Opens N (with_params params nothing_seen) l) (append-nil (body_names params)) (body_from params nothing_seen [] apart none_open)
+-- in what a constructor passes to its superclass
+pub opens_passed : (params : List Param) → Opens (with_passed params nothing_seen) (param_names params)
+opens_passed params = subst (λ l. Opens (with_passed params nothing_seen) l) (append-nil (param_names params)) (passed_from params nothing_seen [] none_open)
 
-  passed_from : (params : List Param) (scope : Scope) (names : List Text) → Opens N scope names → Opens N (with_passed params scope) (reverse (map text_of params) ++ names)
-  passed_from [] scope names h = h
-  passed_from (k ∷ more) scope names h =
-      subst (λ l. Opens N (with_passed more (with_seen k.name (Ready (k.is_field || k.is_final)) scope)) l) (reversed k.name.text (map text_of more) names)
-      (passed_from more (with_seen k.name (Ready (k.is_field || k.is_final)) scope) (k.name.text ∷ names) (opens_ready k.name (k.is_field || k.is_final) scope names h))
-
-  -- in what a constructor passes to its superclass
-  pub opens_passed : (params : List Param) → Opens N (with_passed params nothing_seen) (param_names params)
-  opens_passed params = subst (λ l. Opens N (with_passed params nothing_seen) l) (append-nil (param_names params)) (passed_from params nothing_seen [] none_open)
-
-  plain_no_field : (k : Param) (b : Bool) → b ≡ false → b ≡ true → NoneEmpty
-  plain_no_field k false e f = absurd cc
-  plain_no_field k true e f = absurd cc
-
-  plain_apart : (params : List Param) → Each IsPlainParam params → Each FieldsApart params
-  plain_apart [] h = tt
-  plain_apart (k ∷ more) (h, rest) = (plain_no_field k k.is_field h.no_field, plain_apart more rest)
-
-  -- in a body where each parameter is plain
-  pub opens_params : (params : List Param) → Each IsPlainParam params → Opens N (with_params params nothing_seen) (param_names params)
-  opens_params params h = subst (λ l. Opens N (with_params params nothing_seen) (reverse l)) (plain_all params h) (opens_fields params (plain_apart params h))
-
-abbrev IsSome : Text → Type 0
-IsSome q = q ≡ [] → ⊥
-
-fields_apart : (params : List Param) → Each (λ (k : Param). k.is_field ≡ true → (q : Text) → IsSome q → q ≡ [] → ⊥) params
-fields_apart [] = tt
-fields_apart (k ∷ more) = (λ e q ne. ne, fields_apart more)
-
--- in the body of a constructor
-pub opens_body : (params : List Param) → Opens IsSome (with_params params nothing_seen) (body_names params)
-opens_body params = opens_fields IsSome params (fields_apart params)
+-- in a body where each parameter is plain
+pub opens_params : (params : List Param) → Each IsPlainParam params → Opens (with_params params nothing_seen) (param_names params)
+opens_params params h = subst (λ l. Opens (with_params params nothing_seen) (reverse l)) (plain_all params h) (opens_body params)

@@ -14,7 +14,6 @@ use Rattle.accepted_trees.proofs.RulesKept.{accepted_keeps, keeps_rules}
 use Rattle.accepted_trees.proofs.bodies.Each.{each_append}
 use Rattle.accepted_trees.proofs.classes.ClassRules.{KeepsClasses, named_first}
 use Rattle.accepted_trees.proofs.classes.Lists.{In}
-use Rattle.bare_names.specs.Owners.{IsNamed}
 use Rattle.bare_names.specs.OpenVariables.{CodeAgrees, ConstructorBodyAgrees, MemberAgrees, MemberBodyAgrees, NamesAgree, PassedAgrees, TopAgrees}
 use Rattle.bare_names.proofs.Bodies as bodies
 use Rattle.bare_names.proofs.OpenNames.{opens_body, opens_params, opens_passed}
@@ -31,7 +30,7 @@ module _ (tree : Tree) where
   function_agrees : (f : Function) → Each IsPlainParam f.params → Each KeptIn (top_parts (t.a_function f)) → CodeAgrees tree of_function None f.params f.body
   function_agrees f plain (k, rest) =
       bodies.body_in tree of_function None (uses.body_uses (with_params f.params nothing_seen) f.body) None (λ name. refl)
-      (with_params f.params nothing_seen) (param_names f.params) f.body (opens_params (IsNamed of_function) f.params plain) k
+      (with_params f.params nothing_seen) (param_names f.params) f.body (opens_params f.params plain) k
 
   module _ (c : ClassDecl) (named : class_named tree c.name.text ≡ Some c) where
     declares : (name : Text) → class_declares tree (Some c.name.text) name ≡ is_own_member (Some c) name
@@ -41,13 +40,13 @@ module _ (tree : Tree) where
     member_body params None plain k = tt
     member_body params (Some b) plain (k, rest) =
         bodies.body_in tree of_member (Some c) (uses.body_uses (with_params params nothing_seen) b) (Some c.name.text) declares
-        (with_params params nothing_seen) (param_names params) b (opens_params (IsNamed of_member) params plain) k
+        (with_params params nothing_seen) (param_names params) b (opens_params params plain) k
 
     passed_agrees : (params : List Param) (passed : Option Passed) → Each (Kept tree (uses.part of_passed (Some c) (passed_uses c params passed))) (passed_uses c params passed) → PassedAgrees tree c params passed
     passed_agrees params None k = tt
     passed_agrees params (Some p) (k, rest) =
         bodies.exps_in tree of_passed (Some c) (passed_uses c params (Some p)) (Some c.name.text) declares
-        (with_passed params nothing_seen) (param_names params) (opens_passed (IsNamed of_passed) params) p.args rest
+        (with_passed params nothing_seen) (param_names params) (opens_passed params) p.args rest
 
     abbrev constructor_uses : List Param → Option t.Stas → List uses.Use
     constructor_uses params b = field_uses params ++ some_block_uses (with_params params nothing_seen) b
@@ -93,4 +92,4 @@ module _ (tree : Tree) where
   all_named keeps = each_in Named (classes tree) (λ c i. named_first (classes tree) c keeps.differ i)
 
 pub names_agree : NamesAgree
-names_agree tree accepted written = tops_agree tree tree.tops (all_named tree (accepted_keeps tree accepted)) written.tops (kept tree (keeps_rules tree accepted))
+names_agree tree accepted written = tops_agree tree tree.tops (all_named tree (accepted_keeps tree accepted)) written.tops (kept tree (keeps_rules tree accepted) written.uses)

@@ -2,6 +2,7 @@
 use Rattle.std.proofs.Common.{◌≡◌, ℕ, Bool, true, false, List, [], ◌∷◌, map, refl, ap, sym, ◌∙◌, subst}
 use Rattle.std.specs.Prelude.{Option, Some, None, is_some, if◌then◌else◌}
 use Rattle.dart_syntax.specs.declared.tree.Name.{Name}
+use Rattle.dart_syntax.specs.Names.{is_name}
 use Rattle.dart_syntax.specs.Syntax as t
 use Rattle.dart_syntax.specs.Syntax.{ClassDecl, Top, Tree}
 use Rattle.dart_values.specs.Values.{Text, Value}
@@ -22,20 +23,20 @@ use Rattle.static_rules.specs.Places.{Fault, first_in}
 use Rattle.static_rules.specs.Statics.{is_variable, static_named, static_of}
 use Rattle.static_rules.specs.TearOff.{is_torn_call, is_torn_read, tear_off, torn_off}
 use Rattle.static_rules.specs.UndefinedName.{is_undefined, undefined_in, undefined_name}
-use Rattle.text_trees.specs.Written.{Each}
+use Rattle.text_trees.specs.Written.{AreWrittenUses, Each, IsWrittenName, IsWrittenUse}
 use Rattle.accepted_trees.proofs.RulesKept.{KeepsRules}
 use Rattle.accepted_trees.proofs.bodies.Each.{each_map, each_two}
 use Rattle.accepted_trees.proofs.bodies.RulesAtUses.{Throughout, at_none, or_none}
 use Rattle.accepted_trees.proofs.bodies.StaticNames.{not_false, unknown, variable_is}
-use Rattle.bare_names.specs.Owners.{CallAgrees, IsNamed, NameAgrees, UseAgrees, callee, is_callable, names_of, owner_meant}
-use Rattle.bare_names.proofs.OpenNames.{OpenBy, Opens}
+use Rattle.bare_names.specs.Owners.{CallAgrees, NameAgrees, UseAgrees, callee, is_callable, names_of, owner_meant}
+use Rattle.bare_names.proofs.OpenNames.{IsNamed, OpenBy, Opens}
 use Rattle.bare_names.proofs.SeenUses.{SeenBy}
 use Rattle.bare_names.proofs.TopNames.{callable, not_callable, variable_is_there}
 
 -- ---- what an accepted tree keeps at each use
 
 abbrev pub Kept : Tree → Part → Use → Type 0
-Kept tree in_part x = (undefined_in tree in_part x ≡ None) × ((torn_off tree in_part x ≡ None) × ((abstract_in tree in_part x ≡ None) × (final_in tree in_part x ≡ None)))
+Kept tree in_part x = IsWrittenUse x × ((undefined_in tree in_part x ≡ None) × ((torn_off tree in_part x ≡ None) × ((abstract_in tree in_part x ≡ None) × (final_in tree in_part x ≡ None))))
 
 none_each : {A : Type 0} (f : A → Fault) (xs : List A) → first_in f xs ≡ None → Each (λ x. f x ≡ None) xs
 none_each f [] h = tt
@@ -46,17 +47,23 @@ through tree rule h =
     each_map (λ (p : Part). first_in (rule p) p.uses ≡ None) (λ (p : Part). Each (λ x. rule p x ≡ None) p.uses) (uses.parts tree) (λ p k. none_each (rule p) p.uses k)
     (none_each (λ (p : Part). first_in (rule p) p.uses) (uses.parts tree) h)
 
-with_rule : (tree : Tree) (rule : Part → Use → Fault) (R : Part → Use → Type 0) → in_parts rule tree ≡ None → Throughout tree R → Throughout tree (λ p x. (rule p x ≡ None) × R p x)
-with_rule tree rule R h k =
-    each_map (λ (p : Part). Each (λ x. rule p x ≡ None) p.uses × Each (R p) p.uses) (λ (p : Part). Each (λ x. (rule p x ≡ None) × R p x) p.uses) (uses.parts tree)
-    (λ p both. each_two (λ x. rule p x ≡ None) (R p) p.uses both.0 both.1)
-    (each_two (λ (p : Part). Each (λ x. rule p x ≡ None) p.uses) (λ (p : Part). Each (R p) p.uses) (uses.parts tree) (through tree rule h) k)
+both_throughout : (tree : Tree) (R S : Part → Use → Type 0) → Throughout tree R → Throughout tree S → Throughout tree (λ p x. R p x × S p x)
+both_throughout tree R S h k =
+    each_map (λ (p : Part). Each (R p) p.uses × Each (S p) p.uses) (λ (p : Part). Each (λ x. R p x × S p x) p.uses) (uses.parts tree)
+    (λ p both. each_two (R p) (S p) p.uses both.0 both.1)
+    (each_two (λ (p : Part). Each (R p) p.uses) (λ (p : Part). Each (S p) p.uses) (uses.parts tree) h k)
 
-pub kept : (tree : Tree) → KeepsRules tree → Throughout tree (Kept tree)
+with_rule : (tree : Tree) (rule : Part → Use → Fault) (R : Part → Use → Type 0) → in_parts rule tree ≡ None → Throughout tree R → Throughout tree (λ p x. (rule p x ≡ None) × R p x)
+with_rule tree rule R h k = both_throughout tree (λ p x. rule p x ≡ None) R (through tree rule h) k
+
+keeps_four : (tree : Tree) → KeepsRules tree → Throughout tree (λ p x. (undefined_in tree p x ≡ None) × ((torn_off tree p x ≡ None) × ((abstract_in tree p x ≡ None) × (final_in tree p x ≡ None))))
 unfolding undefined_name tear_off abstract_made final_written
-kept tree rules =
+keeps_four tree rules =
     with_rule tree (undefined_in tree) _ rules.defined
     (with_rule tree (torn_off tree) _ rules.called (with_rule tree (abstract_in tree) _ rules.concrete (through tree (final_in tree) rules.unwritten)))
+
+pub kept : (tree : Tree) → KeepsRules tree → Each AreWrittenUses (uses.parts tree) → Throughout tree (Kept tree)
+kept tree rules written = both_throughout tree (λ p. IsWrittenUse) _ written (keeps_four tree rules)
 
 -- ---- open variables
 
@@ -100,6 +107,9 @@ fixed_variable (Some (t.a_class c)) h = absurd cc
 fixed_variable (Some (t.a_function f)) h = absurd cc
 fixed_variable (Some (t.a_variable v)) h = refl
 
+named : (text : Text) → is_name text ≡ true → IsNamed text
+named text h none = wrong (sym h ∙ ap is_name none)
+
 -- ---- in a part
 
 module _ (tree : Tree) (kind : Kind) (class : Option ClassDecl) (all : List Use) (here : Option Text) (declares : (name : Text) → class_declares tree here name ≡ is_own_member class name) where
@@ -138,11 +148,11 @@ module _ (tree : Tree) (kind : Kind) (class : Option ClassDecl) (all : List Use)
       (outside (own n) (top n) this (variable_there n) u
       (λ d e. a_variable n (variable_is (top_named tree n.text) (var (is_a_top n d e)))) (λ e. (unknown tree n.text e).variable))
 
-  module _ (scope : Scope) (names : List Text) (opens : Opens (IsNamed kind) scope names) where
-    open_by : (n : Name) (seen : Option Seen) → seen ≡ scope n.text → IsNamed kind n.text → OpenBy seen (index_of n.text names)
+  module _ (scope : Scope) (names : List Text) (opens : Opens scope names) where
+    open_by : (n : Name) (seen : Option Seen) → seen ≡ scope n.text → IsNamed n.text → OpenBy seen (index_of n.text names)
     open_by n seen e ne = subst (λ s. OpenBy s (index_of n.text names)) (sym e) (opens n.text ne)
 
-    name_agrees : (n : Name) (seen : Option Seen) → seen ≡ scope n.text → IsNamed kind n.text → is_undefined this (means tree in_part n seen) ≡ false
+    name_agrees : (n : Name) (seen : Option Seen) → seen ≡ scope n.text → IsNamed n.text → is_undefined this (means tree in_part n seen) ≡ false
         → (means tree in_part n seen ≡ a_top → is_variable (static_named tree n.text) ≡ true) → NameAgrees tree in_part here names n seen
     name_agrees n seen e ne u var site_of enter r same =
         subst (λ b. owner_meant (means tree in_part n seen) ≡ Some (owner_by b (class_declares tree here n.text) (variable_there n))) (sym (is_open n.text names r same))
@@ -165,7 +175,7 @@ module _ (tree : Tree) (kind : Kind) (class : Option ClassDecl) (all : List Use)
     closed n None e h r same = is_open n.text names r same ∙ ap is_some e
     closed n (Some k) e h r same = absurd h
 
-    call_agrees : (n : Name) (seen : Option Seen) → seen ≡ scope n.text → IsNamed kind n.text → is_undefined this (means tree in_part n seen) ≡ false
+    call_agrees : (n : Name) (seen : Option Seen) → seen ≡ scope n.text → IsNamed n.text → is_undefined this (means tree in_part n seen) ≡ false
         → is_torn_call tree n.text (means tree in_part n seen) ≡ false → makes_unmade tree n.text (means tree in_part n seen) ≡ false → CallAgrees tree in_part here names n seen
     call_agrees n (Some Late) e ne u torn a = absurd cc
     call_agrees n (Some (Ready f)) e ne u torn a = absurd cc
@@ -175,14 +185,14 @@ module _ (tree : Tree) (kind : Kind) (class : Option ClassDecl) (all : List Use)
     Known x = Kept tree (part kind class all) x × SeenBy scope x
 
     use_agrees : (x : Use) → Known x → UseAgrees tree in_part here names x
-    use_agrees (uses.reads n seen) ((u, (torn, rest)), e) =
-        λ ne. name_agrees n seen e ne (at_none (is_undefined this (means tree in_part n seen)) n.span u)
+    use_agrees (uses.reads n seen) ((w, (u, (torn, rest))), e) =
+        name_agrees n seen e (named n.text w.name) (at_none (is_undefined this (means tree in_part n seen)) n.span u)
         (λ m. not_false (is_variable (static_named tree n.text)) (subst (λ x. is_torn_read tree n.text x ≡ false) m (at_none (is_torn_read tree n.text (means tree in_part n seen)) n.span torn)))
-    use_agrees (uses.writes n seen) ((u, (torn, (a, f))), e) =
-        λ ne. name_agrees n seen e ne (at_none (is_undefined this (means tree in_part n seen)) n.span u)
+    use_agrees (uses.writes n seen) ((w, (u, (torn, (a, f)))), e) =
+        name_agrees n seen e (named n.text w.name) (at_none (is_undefined this (means tree in_part n seen)) n.span u)
         (λ m. fixed_variable (top_named tree n.text) (subst (λ x. is_fixed tree n.text x ≡ false) m (at_none (is_fixed tree n.text (means tree in_part n seen)) n.span f)))
-    use_agrees (uses.calls n seen k) ((u, (torn, (a, f))), e) =
-        λ ne. call_agrees n seen e ne (at_none (is_undefined this (means tree in_part n seen)) n.span u) (at_none (is_torn_call tree n.text (means tree in_part n seen)) n.span torn)
+    use_agrees (uses.calls n seen k) ((w, (u, (torn, (a, f)))), e) =
+        call_agrees n seen e (named n.text w.name) (at_none (is_undefined this (means tree in_part n seen)) n.span u) (at_none (is_torn_call tree n.text (means tree in_part n seen)) n.span torn)
         (at_none (makes_unmade tree n.text (means tree in_part n seen)) n.span a)
     use_agrees (uses.this_at at) k = tt
     use_agrees (uses.super_reads at n) k = tt

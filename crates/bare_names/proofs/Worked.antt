@@ -31,8 +31,8 @@ block = t.next (t.local (record { is_final = false; name = word x; value = Some 
 
 in_function : (tree : Tree) → CodeAgrees tree of_function None (parameter false ∷ []) (t.code block)
     → NameAgrees tree (part of_function None []) None (y ∷ []) (word y) (Some (Ready false)) × NameAgrees tree (part of_function None []) None (x ∷ y ∷ []) (word x) (Some (Ready false))
-in_function tree ((h, _), ((k, _), _)) = (h tt, k tt)
+in_function tree ((h, _), ((k, _), _)) = (h, k)
 
 in_constructor : (tree : Tree) (c : ClassDecl) → ConstructorBodyAgrees tree c (parameter true ∷ []) (Some block)
     → NameAgrees tree (part of_constructor (Some c) []) (Some c.name.text) ([] ∷ []) (word y) None × NameAgrees tree (part of_constructor (Some c) []) (Some c.name.text) (x ∷ [] ∷ []) (word x) (Some (Ready false))
-in_constructor tree c ((h, _), ((k, _), _)) = (h (λ e. cc), k (λ e. cc))
+in_constructor tree c ((h, _), ((k, _), _)) = (h, k)

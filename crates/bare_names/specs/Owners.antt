@@ -12,7 +12,7 @@ use Rattle.dart_meaning.specs.Classes.{Code, class_declares, function_named, is_
 use Rattle.dart_meaning.specs.Meaning.{Bound, find, Owner, of_body, of_this, of_unit, owner_of, call_bare, call_this, call_unit}
 use Rattle.dart_meaning.specs.Means as text
 use Rattle.dart_meaning.specs.Means.{Means, means}
-use Rattle.dart_meaning.specs.Uses.{Kind, of_constructor, Part, Use, reads, writes, calls}
+use Rattle.dart_meaning.specs.Uses.{Part, Use, reads, writes, calls}
 
 -- ---- by the text
 
@@ -48,11 +48,6 @@ CallsItsCallee =
 
 -- ---- where both agree
 
--- In a constructor's body each parameter `this.x` is open under the empty name, which no word of a text is. What is said of uses there is said of the other names.
-abbrev pub IsNamed : Kind → Text → Type 0
-IsNamed of_constructor name = name ≡ [] → ⊥
-IsNamed _ name = Unit {0}
-
 -- A use in a part that stands in the class `here`, if any, with variables of these names open.
 module _ (tree : Tree) (part : Part) (here : Option Text) (names : List Text) where
   -- A name that is read or written is in each run the variable or member that the text means.
@@ -68,7 +63,7 @@ module _ (tree : Tree) (part : Part) (here : Option Text) (names : List Text) wh
 
   -- A use of a bare name; the other uses have none.
   abbrev pub UseAgrees : Use → Type 0
-  UseAgrees (reads n seen) = IsNamed part.kind n.text → NameAgrees n seen
-  UseAgrees (writes n seen) = IsNamed part.kind n.text → NameAgrees n seen
-  UseAgrees (calls n seen k) = IsNamed part.kind n.text → CallAgrees n seen
+  UseAgrees (reads n seen) = NameAgrees n seen
+  UseAgrees (writes n seen) = NameAgrees n seen
+  UseAgrees (calls n seen k) = CallAgrees n seen
   UseAgrees _ = Unit {0}

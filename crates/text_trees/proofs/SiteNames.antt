@@ -1,5 +1,5 @@
--- The names that call sites call are ASCII: a weight counts those that are not.
-use Rattle.std.proofs.Common.{◌≡◌, ℕ, zero, suc, Bool, true, false, if◌then◌else◌, List, [], ◌∷◌, ◌++◌, flat_map, slice_get, Option, Some, refl, subst, codes, arith}
+-- What uses name are names, and the names that call sites call are ASCII: a weight counts the names that are none.
+use Rattle.std.proofs.Common.{◌≡◌, ℕ, zero, suc, Bool, true, false, if◌then◌else◌, List, [], ◌∷◌, ◌++◌, flat_map, slice_get, Option, Some, None, refl, subst, codes, arith}
 use Rattle.dart_syntax.specs.declared.token.Span.{Span}
 use Rattle.dart_syntax.specs.declared.token.TokenKind.{TokenKind}
 use Rattle.dart_syntax.specs.declared.token.TokenKind.TheVariants as tk
@@ -7,6 +7,7 @@ use Rattle.dart_syntax.specs.declared.tree.Unary.{Unary}
 use Rattle.dart_syntax.specs.declared.tree.Unary.TheVariants as unary
 use Rattle.dart_syntax.specs.Words.{Tokens}
 use Rattle.dart_syntax.specs.Bytes.{Text}
+use Rattle.dart_syntax.specs.Names.{is_name}
 use Rattle.dart_syntax.specs.Syntax.{Tree}
 use Rattle.program.specs.declared.body.BinaryOperator.{BinaryOperator}
 use Rattle.program.specs.declared.body.BinaryOperator.TheVariants as by
@@ -17,22 +18,26 @@ use Rattle.dart_meaning.specs.Means.{means, is_of_this}
 use Rattle.dart_meaning.specs.Sites.{Site, if_of_this, sites_of_use, text_sites, prefix_name}
 use Rattle.dart_printer.specs.ReadsBack.{IsPossible, ArePossible}
 use Rattle.dart_printer.proofs.Marks.{in_ascii, ascii_is}
-use Rattle.text_trees.specs.Written.{IsWrittenSite, Each}
+use Rattle.text_trees.specs.Written.{IsWrittenSite, IsWrittenName, IsWrittenUse, AreWrittenUses, Each}
 use Rattle.text_trees.proofs.Weights.{Weight, split, use_weight, weigh, weigh_parts, kind_weight, tokens}
-use Rattle.text_trees.proofs.Names.{name_low}
+use Rattle.text_trees.proofs.Names.{name_is}
 
--- 1 for a name that is not ASCII
+-- 1 for a name that is none
 abbrev pub strange : Weight
-strange k name = if in_ascii name then 0 else 1
+strange k None = 0
+strange k (Some name) = if is_name name then 0 else 1
 
-low : (k : ℕ) (name : Text) → strange k name ≡ 0 → in_ascii name ≡ true
-low k name h = split (in_ascii name) (λ e. e) (λ e. let f : 1 ≡ 0 = rw e at h in absurd (omega arith))
+a_name : (name : Text) → strange 0 (Some name) ≡ 0 → is_name name ≡ true
+a_name name h = split (is_name name) (λ e. e) (λ e. let f : 1 ≡ 0 = rw e at h in absurd (omega arith))
+
+written : (name : Text) → strange 0 (Some name) ≡ 0 → IsWrittenName name
+written name h = name_is name (a_name name h)
 
 -- ---- tokens
 
 kind_none : (c : TokenKind) (span : Span) → IsPossible c → kind_weight strange c span ≡ 0
 kind_none tk.End span h = refl
-kind_none (tk.Name n) span h = rw (name_low n h) refl
+kind_none (tk.Name n) span h = rw h refl
 kind_none _ span h = refl
 
 pub tokens_none : (ts : Tokens) → ArePossible ts → tokens strange ts ≡ 0
@@ -66,12 +71,12 @@ prefix_low unary.Not = refl
 prefix_low _ = refl
 
 use_written : (tree : Tree) (part : Part) (x : Use) → use_weight strange x ≡ 0 → Each IsWrittenSite (sites_of_use tree part x)
-use_written tree part (u.reads n seen) h = if_written (is_of_this (means tree part n seen)) _ (record { stands = tt; ascii = ascii_is n.text (low 0 n.text h) })
-use_written tree part (u.writes n seen) h = if_written (is_of_this (means tree part n seen)) _ (record { stands = tt; ascii = ascii_is n.text (low 0 n.text h) })
-use_written tree part (u.calls n seen k) h = if_written (is_of_this (means tree part n seen)) _ (record { stands = tt; ascii = ascii_is n.text (low 0 n.text h) })
-use_written tree part (u.member_reads n) h = (record { stands = tt; ascii = ascii_is n.text (low 0 n.text h) }, tt)
-use_written tree part (u.member_writes n) h = (record { stands = tt; ascii = ascii_is n.text (low 0 n.text h) }, tt)
-use_written tree part (u.member_calls n k) h = (record { stands = tt; ascii = ascii_is n.text (low 0 n.text h) }, tt)
+use_written tree part (u.reads n seen) h = if_written (is_of_this (means tree part n seen)) _ (record { stands = tt; ascii = (written n.text h).ascii })
+use_written tree part (u.writes n seen) h = if_written (is_of_this (means tree part n seen)) _ (record { stands = tt; ascii = (written n.text h).ascii })
+use_written tree part (u.calls n seen k) h = if_written (is_of_this (means tree part n seen)) _ (record { stands = tt; ascii = (written n.text h).ascii })
+use_written tree part (u.member_reads n) h = (record { stands = tt; ascii = (written n.text h).ascii }, tt)
+use_written tree part (u.member_writes n) h = (record { stands = tt; ascii = (written n.text h).ascii }, tt)
+use_written tree part (u.member_calls n k) h = (record { stands = tt; ascii = (written n.text h).ascii }, tt)
 use_written tree part (u.index_reads at) h = (record { stands = tt; ascii = ascii_is (codes "[]") refl }, tt)
 use_written tree part (u.index_writes at) h = (record { stands = tt; ascii = ascii_is (codes "[]=") refl }, tt)
 use_written tree part (u.operates op at) h = (record { stands = tt; ascii = ascii_is (binary_name op) (binary_low op) }, tt)
@@ -92,3 +97,22 @@ parts_written tree (x ∷ xs) h =
 pub text_written : (tree : Tree) → weigh_parts strange (parts tree) ≡ 0 → Each IsWrittenSite (text_sites tree)
 unfolding text_sites
 text_written tree h = parts_written tree (parts tree) h
+
+-- ---- uses
+
+use_named : (x : Use) → use_weight strange x ≡ 0 → IsWrittenUse x
+use_named (u.reads n seen) h = written n.text h
+use_named (u.writes n seen) h = written n.text h
+use_named (u.calls n seen k) h = written n.text h
+use_named (u.member_reads n) h = written n.text h
+use_named (u.member_writes n) h = written n.text h
+use_named (u.member_calls n k) h = written n.text h
+use_named _ h = tt
+
+uses_named : (xs : List Use) → weigh strange xs ≡ 0 → Each IsWrittenUse xs
+uses_named [] h = tt
+uses_named (x ∷ xs) h = (use_named x (omega (arith, h)), uses_named xs (omega (arith, h)))
+
+pub parts_named : (ps : List Part) → weigh_parts strange ps ≡ 0 → Each AreWrittenUses ps
+parts_named [] h = tt
+parts_named (x ∷ xs) h = (uses_named x.uses (omega (arith, h)), parts_named xs (omega (arith, h)))

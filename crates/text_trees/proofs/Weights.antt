@@ -1,4 +1,4 @@
--- What uses and tokens weigh. A weight p says what a call site of a place and a name weighs; a token weighs as much as a read and a write at it.
+-- What uses and tokens weigh. A weight p says what a use at a place weighs, of a name or of none; a token weighs as much as a read and a write at it.
 use Rattle.std.proofs.Common.{◌≡◌, ℕ, ◌+◌, ◌*◌, ◌≤◌, Bool, true, false, List, [], ◌∷◌, ◌++◌, length, Option, Some, None, refl, arith}
 use Rattle.dart_syntax.specs.declared.token.Span.{Span}
 use Rattle.dart_syntax.specs.declared.token.TokenKind.{TokenKind}
@@ -14,31 +14,31 @@ use Rattle.dart_meaning.specs.Uses.{Use, Part}
 use Rattle.dart_printer.specs.ReadsBack.{ArePossible}
 
 abbrev pub Weight : Type 0
-Weight = ℕ → Text → ℕ
+Weight = ℕ → Option Text → ℕ
 
 pub split : {G : Type 0} (b : Bool) → (b ≡ true → G) → (b ≡ false → G) → G
 split true f g = f refl
 split false f g = g refl
 
 module _ (p : Weight) where
-  abbrev pub read_weight : Span → Text → ℕ
+  abbrev pub read_weight : Span → Option Text → ℕ
   read_weight at name = p (2 * at.start) name
 
-  abbrev pub write_weight : Span → Text → ℕ
+  abbrev pub write_weight : Span → Option Text → ℕ
   write_weight at name = p (2 * at.start + 1) name
 
   abbrev pub use_weight : Use → ℕ
-  use_weight (u.reads n seen) = read_weight n.span n.text
-  use_weight (u.writes n seen) = write_weight n.span n.text
-  use_weight (u.calls n seen k) = read_weight n.span n.text
-  use_weight (u.member_reads n) = read_weight n.span n.text
-  use_weight (u.member_writes n) = write_weight n.span n.text
-  use_weight (u.member_calls n k) = read_weight n.span n.text
-  use_weight (u.index_reads at) = read_weight at []
-  use_weight (u.index_writes at) = write_weight at []
-  use_weight (u.operates op at) = read_weight at []
-  use_weight (u.prefixes op at) = read_weight at []
-  use_weight (u.shows at) = read_weight at []
+  use_weight (u.reads n seen) = read_weight n.span (Some n.text)
+  use_weight (u.writes n seen) = write_weight n.span (Some n.text)
+  use_weight (u.calls n seen k) = read_weight n.span (Some n.text)
+  use_weight (u.member_reads n) = read_weight n.span (Some n.text)
+  use_weight (u.member_writes n) = write_weight n.span (Some n.text)
+  use_weight (u.member_calls n k) = read_weight n.span (Some n.text)
+  use_weight (u.index_reads at) = read_weight at None
+  use_weight (u.index_writes at) = write_weight at None
+  use_weight (u.operates op at) = read_weight at None
+  use_weight (u.prefixes op at) = read_weight at None
+  use_weight (u.shows at) = read_weight at None
   use_weight _ = 0
 
   abbrev pub weigh : List Use → ℕ
@@ -51,9 +51,9 @@ module _ (p : Weight) where
 
   -- an end token weighs nothing
   abbrev pub kind_weight : TokenKind → Span → ℕ
-  kind_weight (tk.Name name) at = read_weight at name + write_weight at name
+  kind_weight (tk.Name name) at = read_weight at (Some name) + write_weight at (Some name)
   kind_weight tk.End at = 0
-  kind_weight _ at = read_weight at [] + write_weight at []
+  kind_weight _ at = read_weight at None + write_weight at None
 
   abbrev pub tokens : Tokens → ℕ
   tokens [] = 0
@@ -72,12 +72,12 @@ module _ (p : Weight) where
   join_tokens (x ∷ xs) ys = omega (arith, join_tokens xs ys)
 
   -- what an operator before an operand, and one between two, adds
-  pub prefix_weight : (op : Unary) (at : Span) (x : Exp) → weigh (u.prefix_use op at x) ≤ read_weight at []
+  pub prefix_weight : (op : Unary) (at : Span) (x : Exp) → weigh (u.prefix_use op at x) ≤ read_weight at None
   prefix_weight unary.Not at x = omega arith
   prefix_weight unary.Complement at x = omega arith
   prefix_weight unary.Minus at x = split (u.is_number x) (λ e. rw e (omega arith)) (λ e. rw e (omega arith))
 
-  pub operator_weight : (op : Option BinaryOperator) (at : Span) → weigh (u.operator_use op at) ≤ read_weight at []
+  pub operator_weight : (op : Option BinaryOperator) (at : Span) → weigh (u.operator_use op at) ≤ read_weight at None
   operator_weight None at = omega arith
   operator_weight (Some op) at = omega arith
 

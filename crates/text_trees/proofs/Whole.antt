@@ -23,7 +23,7 @@ use Rattle.text_trees.proofs.Statements.{stmt_fine}
 use Rattle.text_trees.proofs.Members.{tops_fine}
 use Rattle.text_trees.proofs.Starts.{tokens_rise}
 use Rattle.text_trees.proofs.Hits.{at, sites_at, rises_once, text_hits, once_same, site_hits}
-use Rattle.text_trees.proofs.SiteNames.{strange, tokens_none, text_written, each_get}
+use Rattle.text_trees.proofs.SiteNames.{strange, tokens_none, text_written, parts_named, each_get}
 
 module _ (source : Text) (list : Tokens) (tree : Tree) (x : TokenList source list) (d : Derives list tree) where
   abbrev end : Tokens
@@ -43,14 +43,18 @@ module _ (source : Text) (list : Tokens) (tree : Tree) (x : TokenList source lis
   few_sites : (k : ℕ) → sites_at k (text_sites tree) ≤ 1
   few_sites k = omega (arith, text_hits k tree, uses_weigh (at k), (rises_once k 0 x.found (length source) (tokens_rise source list x)).once)
 
-  sites_written : Each IsWrittenSite (text_sites tree)
-  sites_written =
+  none_strange : weigh_parts strange (parts tree) ≡ 0
+  none_strange =
       let is : tokens strange list ≡ tokens strange (x.found ++ end) = ap (tokens strange) x.is in
-      text_written tree (omega (arith, uses_weigh strange, is, join_tokens strange x.found end, tokens_none list (are_possible source list x)))
+      omega (arith, uses_weigh strange, is, join_tokens strange x.found end, tokens_none list (are_possible source list x))
+
+  sites_written : Each IsWrittenSite (text_sites tree)
+  sites_written = text_written tree none_strange
 
   pub are_written : length source ≤ 1048576 → IsWritten tree
   are_written short = record {
     tops = (whole strange).1.is;
+    uses = parts_named (parts tree) none_strange;
     places = λ i j k e f. once_same k (text_sites tree) i j (few_sites k) e f;
     sites = λ i s e. each_get IsWrittenSite (text_sites tree) i s sites_written e;
     small = omega (arith, (whole strange).1.size, (proper_tokens source list x).short, short);

@@ -5,6 +5,7 @@ use Rattle.dart_syntax.specs.Names.{is_name}
 use Rattle.dart_syntax.specs.Syntax as t
 use Rattle.dart_syntax.specs.Syntax.{Exp, Exps, Pieces, Links, Selectors, Selector, First, Sta, Stas, Param, Body, Passed, Member, Top, Tree}
 use Rattle.dart_meaning.specs.Place.{Place, reading, writing}
+use Rattle.dart_meaning.specs.Uses.{Use, reads, writes, calls, member_reads, member_writes, member_calls, Part, parts}
 use Rattle.dart_meaning.specs.Sites.{Site, text_sites, key}
 use Rattle.text_trees.specs.Nodes.{tree_nodes}
 
@@ -147,6 +148,22 @@ IsWrittenTop (t.a_class c) = IsWrittenName c.name.text × Each IsWrittenMember c
 IsWrittenTop (t.a_function f) = IsWrittenName f.name.text × ArePlainParams f.params × IsWrittenBody f.body
 IsWrittenTop (t.a_variable v) = IsWrittenName v.name.text × IsWrittenValue v.value
 
+-- ---- uses
+
+-- what a use names is a name
+abbrev pub IsWrittenUse : Use → Type 0
+IsWrittenUse (reads n seen) = IsWrittenName n.text
+IsWrittenUse (writes n seen) = IsWrittenName n.text
+IsWrittenUse (calls n seen k) = IsWrittenName n.text
+IsWrittenUse (member_reads n) = IsWrittenName n.text
+IsWrittenUse (member_writes n) = IsWrittenName n.text
+IsWrittenUse (member_calls n k) = IsWrittenName n.text
+IsWrittenUse _ = Unit {0}
+
+-- so it is in each part of a text
+abbrev pub AreWrittenUses : Part → Type 0
+AreWrittenUses part = Each IsWrittenUse part.uses
+
 -- ---- call sites
 
 -- it stands in the text, and the name that it calls is ASCII
@@ -168,6 +185,7 @@ site_keys tree = map (λ (s : Site). key s.place) (text_sites tree)
 pub record IsWritten (tree : Tree) : Type 0 where
   -- names are ASCII, no parameter can be left out, and what is assigned to can be
   pub tops : Each IsWrittenTop tree.tops
+  pub uses : Each AreWrittenUses (parts tree)
   -- no two call sites are at one place
   pub places : (i j k : ℕ) → slice_get (site_keys tree) i ≡ Some k → slice_get (site_keys tree) j ≡ Some k → i ≡ j
   pub sites : (i : ℕ) (s : Site) → slice_get (text_sites tree) i ≡ Some s → IsWrittenSite s
