@@ -23,7 +23,7 @@ use Rattle.static_rules.specs.Places.{Fault, first_in}
 use Rattle.static_rules.specs.Statics.{is_variable, static_named, static_of}
 use Rattle.static_rules.specs.TearOff.{is_torn_call, is_torn_read, tear_off, torn_off}
 use Rattle.static_rules.specs.UndefinedName.{is_undefined, undefined_in, undefined_name}
-use Rattle.text_trees.specs.Written.{AreWrittenUses, Each, IsWrittenName, IsWrittenUse}
+use Rattle.text_trees.specs.Written.{AreWrittenUses, Each, IsWrittenUse}
 use Rattle.accepted_trees.proofs.RulesKept.{KeepsRules}
 use Rattle.accepted_trees.proofs.bodies.Each.{each_map, each_two}
 use Rattle.accepted_trees.proofs.bodies.RulesAtUses.{Throughout, at_none, or_none}

@@ -1,5 +1,5 @@
 -- Whose variable or member a bare name is, by the text and in the run.
-use Rattle.std.specs.Prelude.{◌≡◌, ℕ, Bool, false, ◌||◌, if◌then◌else◌, List, [], map, Option, None, Some, is_some, codes}
+use Rattle.std.specs.Prelude.{◌≡◌, ℕ, Bool, false, ◌||◌, if◌then◌else◌, List, map, Option, None, Some, is_some, codes}
 use Rattle.std.specs.Str.{bytes_eq}
 use Rattle.dart_syntax.specs.declared.tree.Name.{Name}
 use Rattle.dart_syntax.specs.Syntax.{Tree}
