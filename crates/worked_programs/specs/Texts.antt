@@ -365,3 +365,47 @@ abbrev pub equal_is_no_bool : Text
 equal_is_no_bool = source (
     codes "class A { operator ==(o) => 1; }" ∷
     codes "main() { print(A() == A()); }" ∷ [])
+
+abbrev pub return_leaves_a_loop : Text
+return_leaves_a_loop = source (
+    codes "f() { while (true) { return 1; } return 2; }" ∷
+    codes "main() { print(f()); }" ∷ [])
+
+abbrev pub right_sides_are_bools : Text
+right_sides_are_bools = source (
+    codes "main() { print(true && 1); }" ∷ [])
+
+abbrev pub right_side_of_or : Text
+right_side_of_or = source (
+    codes "main() { print(false || 1); }" ∷ [])
+
+abbrev pub print_answers_null : Text
+print_answers_null = source (
+    codes "main() { print(print(1)); }" ∷ [])
+
+abbrev pub fields_spend_no_turn : Text
+fields_spend_no_turn = source (
+    codes "class A { var x = 1; }" ∷
+    codes "main() { print(A().x); }" ∷ [])
+
+abbrev pub lists_grow_while_shown : Text
+lists_grow_while_shown = source (
+    codes "class G { var l; G(this.l); toString() { if (l.length < 3) l.add(7); return 'g'; } }" ∷
+    codes "main() { var l = []; l.add(G(l)); print(l); }" ∷ [])
+
+abbrev pub old_value_first : Text
+old_value_first = source (
+    codes "var x = 1;" ∷
+    codes "f() { x = 10; return 1; }" ∷
+    codes "main() { x += f(); print(x); }" ∷ [])
+
+abbrev pub fields_before_super : Text
+fields_before_super = source (
+    codes "class A { A() { print(s()); } s() => 0; }" ∷
+    codes "class B extends A { var x; B(this.x); s() => x; }" ∷
+    codes "main() { B(1); }" ∷ [])
+
+abbrev pub blocks_drop_their_locals : Text
+blocks_drop_their_locals = source (
+    codes "class A { var x = 1; m() { { var x = 2; } return x; } }" ∷
+    codes "main() { print(A().m()); }" ∷ [])

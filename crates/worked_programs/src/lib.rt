@@ -1,6 +1,7 @@
 //! Small programs, and what they do: each clause is computed from the text of the program.
 #![tactic(auto)]
 
+pub mod apart;
 pub mod calls;
 pub mod control;
 pub mod ends;
