@@ -19,14 +19,14 @@ use Rattle.cell_rule.specs.declared.words.Entry.{Entry}
 use Rattle.cell_rule.specs.declared.view.Seen.TheVariants.{Head, Data, Set, Empty}
 use Rattle.cell_rule.specs.declared.view.Asked.{Asked}
 use Rattle.cell_rule.specs.declared.view.View.{View}
-use Rattle.cell_rule.specs.Lists.{Each, Has}
+use Rattle.list_members.specs.Members.{Each, Has}
 use Rattle.cell_rule.specs.Words.{IsSmall, data_word, target_word, check_word, entry_of, DataFits, TargetFits, CheckFits}
 use Rattle.cell_rule.specs.About.{About, Sound, LawfulInfo}
 use Rattle.cell_rule.specs.Histories.{History, Histories, IsHistory, present, Good, Known, Explained, InRange, settled, call, Called, Moved}
 use Rattle.cell_rule.specs.Rule.{head_at, data_at, check_at, row_word, Ruled}
 use Rattle.cell_rule.specs.Told.{Sat, sees, begins, goes_on, installs, HeadIs, DataIs, WonAs, CheckSeen}
 use Rattle.cell_rule.specs.Steps.{OthersSeen}
-use Rattle.cell_rule.proofs.Basics.{each_append, each_has}
+use Rattle.list_members.proofs.MemberFacts.{each_append, each_has}
 use Rattle.cell_rule.proofs.Packs.{data_inj, entry_inj, check_some}
 use Rattle.cell_rule.proofs.Rows.{inside, all_at, row_is, filled, word_at, word_else, row_same, none_has, move_over, moved_over, moved_small}
 use Rattle.cell_rule.proofs.Growth.{put, put_here, put_else, put_all, data_fits, entry_fits, Grown, grown-refl, view_grows, extended, finished, extended-grown, extended-ok, finished-grown, finished-ok}

@@ -15,14 +15,14 @@ use Rattle.cell_rule.specs.declared.words.Entry.{Entry}
 use Rattle.cell_rule.specs.declared.view.Seen.{Seen}
 use Rattle.cell_rule.specs.declared.view.Seen.TheVariants.{Head, Data, Set, Empty}
 use Rattle.cell_rule.specs.declared.view.View.{View}
-use Rattle.cell_rule.specs.Lists.{Each, Has}
+use Rattle.list_members.specs.Members.{Each, Has}
 use Rattle.cell_rule.specs.About.{About}
 use Rattle.cell_rule.specs.Histories.{Histories, present, Known, Explained, settled, call, Called}
 use Rattle.cell_rule.specs.Rule.{share, Worded, Ruled}
 use Rattle.cell_rule.specs.Stamps.{head_part, data_part, head_stamp, data_stamp, Settled}
 use Rattle.cell_rule.specs.Told.{Learnt}
 use Rattle.cell_rule.specs.Steps.{Coherent, EndsAs}
-use Rattle.cell_rule.proofs.Basics.{each_has}
+use Rattle.list_members.proofs.MemberFacts.{each_has}
 use Rattle.cell_rule.proofs.Growth.{InSome}
 
 -- what was seen is known

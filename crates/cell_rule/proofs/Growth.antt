@@ -21,7 +21,7 @@ use Rattle.cell_rule.specs.Words.{IsSmall, no_target, StateFits, DataFits, Targe
 use Rattle.cell_rule.specs.About.{About, Sound, state_target, LawfulInfo}
 use Rattle.cell_rule.specs.Histories.{History, Histories, IsHistory, present, Good, Known, Explained, settled}
 use Rattle.cell_rule.specs.Rule.{IsView}
-use Rattle.cell_rule.proofs.Basics.{each_map}
+use Rattle.list_members.proofs.MemberFacts.{each_map}
 use Rattle.cell_rule.proofs.Rows.{moved_lawful}
 
 abbrev pub pick : {A P : Type 0} → Dec P → A → A → A

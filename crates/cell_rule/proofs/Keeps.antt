@@ -12,14 +12,14 @@ use Rattle.cell_rule.specs.declared.words.Info.{Info}
 use Rattle.cell_rule.specs.declared.words.Entry.{Entry}
 use Rattle.cell_rule.specs.declared.view.Seen.TheVariants.{Head, Data}
 use Rattle.cell_rule.specs.declared.view.View.{View}
-use Rattle.cell_rule.specs.Lists.{Has}
+use Rattle.list_members.specs.Members.{Has}
 use Rattle.cell_rule.specs.Words.{data_word, target_word, check_word, entry_of}
 use Rattle.cell_rule.specs.About.{About}
 use Rattle.cell_rule.specs.Histories.{call, Known, Called, Moved}
 use Rattle.cell_rule.specs.Rule.{head_at, data_at, check_at, Ruled}
 use Rattle.cell_rule.specs.Told.{Sat, CheckSeen, opened, saw_head, saw_data, advanced, finished_with, saw_check, claimed, looked}
 use Rattle.cell_rule.specs.Steps.{IsCurrent, OthersSeen, CallsIt, CachedSeen}
-use Rattle.cell_rule.proofs.Basics.{each_has}
+use Rattle.list_members.proofs.MemberFacts.{each_has}
 use Rattle.cell_rule.proofs.Ruling.{looks}
 use Rattle.cell_rule.proofs.Effects.{Done, opens_done, head_done, data_done, advance_done, finish_done, check_done, claim_done}
 

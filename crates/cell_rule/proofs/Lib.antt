@@ -1,5 +1,4 @@
 pub mod Packs
-pub mod Basics
 pub mod Rows
 pub mod Growth
 pub mod Programs

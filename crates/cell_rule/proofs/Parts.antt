@@ -11,13 +11,13 @@ use Rattle.cell_rule.specs.declared.words.Info.{Info}
 use Rattle.cell_rule.specs.declared.view.Seen.{Seen}
 use Rattle.cell_rule.specs.declared.view.Seen.TheVariants.{Head, Data, Set}
 use Rattle.cell_rule.specs.declared.view.View.{View}
-use Rattle.cell_rule.specs.Lists.{Has}
+use Rattle.list_members.specs.Members.{Has}
 use Rattle.cell_rule.specs.Words.{entry_of}
 use Rattle.cell_rule.specs.About.{About}
 use Rattle.cell_rule.specs.Histories.{Known, Explained, settled, call, Called}
 use Rattle.cell_rule.specs.Rule.{row_word, Ruled}
 use Rattle.cell_rule.specs.Parts.{Site, StartsWithZero, Packed, IsLawful, IsReached, IsFilled, IsSeen, IsExplained, Agrees, IsShown, IsShared, Listed}
-use Rattle.cell_rule.proofs.Basics.{each_has}
+use Rattle.list_members.proofs.MemberFacts.{each_has}
 use Rattle.cell_rule.proofs.Rows.{word_at}
 use Rattle.cell_rule.proofs.Effects.{info_fits, head_fits, concrete_called}
 

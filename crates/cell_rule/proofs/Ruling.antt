@@ -11,12 +11,12 @@ use Rattle.cell_rule.specs.declared.view.Seen.{Seen}
 use Rattle.cell_rule.specs.declared.view.Seen.TheVariants.{Data}
 use Rattle.cell_rule.specs.declared.view.Asked.{Asked}
 use Rattle.cell_rule.specs.declared.view.View.{View}
-use Rattle.cell_rule.specs.Lists.{Each, Has}
+use Rattle.list_members.specs.Members.{Each, Has}
 use Rattle.cell_rule.specs.About.{About}
 use Rattle.cell_rule.specs.Histories.{History, Histories, IsHistory, call, Called}
 use Rattle.cell_rule.specs.Rule.{head_at, data_at, check_at, share, Worded, IsView, Shown, Over, Ruled}
 use Rattle.cell_rule.specs.Told.{Sat}
-use Rattle.cell_rule.proofs.Basics.{each_map}
+use Rattle.list_members.proofs.MemberFacts.{each_map}
 use Rattle.cell_rule.proofs.Rows.{inside}
 use Rattle.cell_rule.proofs.Growth.{put, put_all, Grown, grown-refl, view_grows, in_set, each_set}
 

@@ -9,13 +9,13 @@ use Rattle.cell_rule.specs.declared.words.Entry.{Entry}
 use Rattle.cell_rule.specs.declared.view.Seen.{Seen}
 use Rattle.cell_rule.specs.declared.view.Seen.TheVariants.{Head, Data, Set, Empty}
 use Rattle.cell_rule.specs.declared.view.View.{View}
-use Rattle.cell_rule.specs.Lists.{Has}
+use Rattle.list_members.specs.Members.{Has}
 use Rattle.cell_rule.specs.Words.{entry_of, data_word, target_word, check_word, DataFits, TargetFits, CheckFits, IsDataWord, IsTargetWord, IsCheckWord}
 use Rattle.cell_rule.specs.About.{About}
 use Rattle.cell_rule.specs.Histories.{Histories, Known}
 use Rattle.cell_rule.specs.Told.{Learnt, sees, goes_on, HeadIs, DataIs, HeadSeen, DataSeen, Won, WonAs, CheckSeen}
 use Rattle.cell_rule.specs.Steps.{Knows}
-use Rattle.cell_rule.proofs.Basics.{each_has}
+use Rattle.list_members.proofs.MemberFacts.{each_has}
 use Rattle.cell_rule.proofs.Packs.{data_inj, entry_inj, check_inj, check_some}
 
 module _ (p : About) (x : ℕ) where

@@ -15,13 +15,13 @@ use Rattle.miss_handler.proofs.Moves.{reached_more}
 use Rattle.cell_rule.specs.declared.view.Seen.{Seen}
 use Rattle.cell_rule.specs.declared.view.Seen.TheVariants.{Data}
 use Rattle.cell_rule.specs.declared.view.View.{View}
-use Rattle.cell_rule.specs.Lists.{Each, Has}
+use Rattle.list_members.specs.Members.{Each, Has}
 use Rattle.cell_rule.specs.Words.{info, no_target, data_word, target_word}
 use Rattle.cell_rule.specs.About.{About, Sound}
 use Rattle.cell_rule.specs.Histories.{History, Known, Explained, InRange, settled, call, Called}
 use Rattle.cell_rule.specs.Rule.{head_at, data_at, check_at, share, IsView, Ruled}
 use Rattle.cell_rule.specs.Told.{newcomer, kept, given, joined, spent}
-use Rattle.cell_rule.proofs.Basics.{each_map, each_append, has_left, has_right}
+use Rattle.list_members.proofs.MemberFacts.{each_map, each_append, has_left, has_right}
 use Rattle.cell_rule.proofs.Growth.{InSome, in_set, in_snoc, each_set, each_snoc}
 
 module _ (p : About) where

@@ -1,6 +1,5 @@
 pub mod Words
 pub mod Unpacked
-pub mod Lists
 pub mod About
 pub mod Histories
 pub mod Rule

@@ -10,7 +10,7 @@ use Rattle.cell_rule.specs.declared.words.Info.{Info}
 use Rattle.cell_rule.specs.declared.words.Entry.{Entry}
 use Rattle.cell_rule.specs.declared.view.Seen.TheVariants.{Head, Data, Set}
 use Rattle.cell_rule.specs.declared.view.View.{View}
-use Rattle.cell_rule.specs.Lists.{Each, Has}
+use Rattle.list_members.specs.Members.{Each, Has}
 use Rattle.cell_rule.specs.Words.{data_word, target_word, check_word, entry_of, DataFits, TargetFits}
 use Rattle.cell_rule.specs.About.{About, state_target}
 use Rattle.cell_rule.specs.Histories.{Called, settled}

@@ -8,7 +8,7 @@ use Rattle.miss_handler.specs.declared.state.CallState.TheVariants.{Mega}
 use Rattle.miss_handler.specs.States.{Reached, has}
 use Rattle.cell_rule.specs.declared.view.Seen.TheVariants.{Data}
 use Rattle.cell_rule.specs.declared.view.View.{View}
-use Rattle.cell_rule.specs.Lists.{Each, Has}
+use Rattle.list_members.specs.Members.{Each, Has}
 use Rattle.cell_rule.specs.Words.{data_word, target_word, check_word, entry_of}
 use Rattle.cell_rule.specs.About.{About, Sound}
 use Rattle.cell_rule.specs.Histories.{History, Histories, present, Good, Known, Explained, InRange, settled, Called}

@@ -9,7 +9,7 @@ use Rattle.cell_rule.specs.declared.words.Info.{Info}
 use Rattle.cell_rule.specs.declared.words.Entry.{Entry}
 use Rattle.cell_rule.specs.declared.view.Seen.TheVariants.{Head, Data, Set, Empty}
 use Rattle.cell_rule.specs.declared.view.View.{View}
-use Rattle.cell_rule.specs.Lists.{Has}
+use Rattle.list_members.specs.Members.{Has}
 use Rattle.cell_rule.specs.Words.{data_word, target_word, check_word, entry_of, DataFits, TargetFits, CheckFits}
 use Rattle.cell_rule.specs.About.{About}
 use Rattle.cell_rule.specs.Histories.{call, Moved}

@@ -11,7 +11,7 @@ use Rattle.cell_rule.specs.declared.view.Seen.TheVariants.{Data, Set, Empty}
 use Rattle.cell_rule.specs.declared.view.Asked.{Asked}
 use Rattle.cell_rule.specs.declared.view.View.{View}
 use Rattle.cell_rule.specs.declared.table.CellWords.{CellWords}
-use Rattle.cell_rule.specs.Lists.{Each, Has}
+use Rattle.list_members.specs.Members.{Each, Has}
 use Rattle.cell_rule.specs.About.{About, about_of}
 use Rattle.cell_rule.specs.Histories.{Histories, Good, Known, Explained, Called, present, call}
 use Rattle.cell_rule.specs.Rule.{Worded}

@@ -10,7 +10,7 @@ use Rattle.cell_rule.specs.declared.view.Seen.TheVariants.{Head, Data, Set, Empt
 use Rattle.cell_rule.specs.declared.view.Asked.{Asked}
 use Rattle.cell_rule.specs.declared.view.Change.{Change}
 use Rattle.cell_rule.specs.declared.view.View.{View}
-use Rattle.cell_rule.specs.Lists.{Each}
+use Rattle.list_members.specs.Members.{Each}
 use Rattle.cell_rule.specs.Words.{data_word, target_word, check_word, DataFits, TargetFits, CheckFits}
 use Rattle.cell_rule.specs.About.{About, Sound}
 use Rattle.cell_rule.specs.Histories.{Histories, Good, Known, Explained, settled, call}

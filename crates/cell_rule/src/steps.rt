@@ -2,7 +2,7 @@
 ghost use Rattle.cell_rule.specs.Steps.{IsNamed, InReach, SameSeat, IsCurrent, OpensTo, HeadTo, DataTo, AdvancedTo, CheckTo, OthersSeen, CallsIt, CachedSeen};
 ghost use Rattle.cell_rule.specs.Words.{data_word, target_word, entry_of, DataFits, TargetFits, CheckFits, IsDataWord, IsTargetWord};
 ghost use Rattle.cell_rule.specs.Histories.{Moved};
-ghost use Rattle.cell_rule.specs.Lists.{Has};
+ghost use Rattle.list_members.specs.Members.{Has};
 ghost use Rattle.cell_rule.specs.declared.view.Seen.TheVariants.{Head, Data};
 ghost use Rattle.std.specs.Prelude.{◌≡◌, ℕ, ◌+◌, ◌*◌, ◌<◌, ◌≤◌, false, MatchOption, Some, IsTrue};
 

@@ -1,4 +1,5 @@
 pub mod Walk
+mod OneClass
 pub mod CallFacts
 pub mod Smalls
 pub mod Resolving

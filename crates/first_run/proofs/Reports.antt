@@ -1,12 +1,12 @@
 -- What the report shows is what the meaning says.
-use Rattle.std.proofs.Common.{◌≡◌, ℕ, zero, suc, ◌+◌, ◌<◌, List, [], ◌∷◌, ◌++◌, length, refl, ap, sym, ◌∙◌, arith, Option, None, Bool, true, false, length-set, length-append}
+use Rattle.std.proofs.Common.{◌≡◌, ℕ, zero, suc, ◌+◌, ◌<◌, List, [], ◌∷◌, ◌++◌, length, refl, ap, sym, ◌∙◌, arith, Option, Bool, true, false, length-set, length-append}
 use Rattle.std.specs.Prelude.{slice_set, slice_index, slice_index_or, replicate, map, ◌==◌, if◌then◌else◌, codes}
 use Rattle.std.specs.Fmt.{decimal}
 use Rattle.std.specs.List.{flat_map, enumerate_from}
 use Rattle.std.proofs.lemmas.Bool.Decides.{nat_tests}
 use Rattle.std.proofs.lemmas.Grind.{common_steps}
 use Rattle.first_run.specs.declared.running.PrintCall.{PrintCall}
-use Rattle.call_cell.specs.Sites.{classes_at, state_at}
+use Rattle.call_cell.specs.Kept.{classes_at}
 use Rattle.first_form.specs.declared.form.PrintStmt.{PrintStmt}
 use Rattle.first_form.specs.declared.form.Form.{Form}
 use Rattle.first_run.specs.declared.report.SiteText.{SiteText}
@@ -44,11 +44,6 @@ pub body_at : (j : ℕ) (prints : List PrintStmt) (k : ℕ) (d : PrintCall) → 
 body_at j [] k d h = absurd (omega arith)
 body_at j (p ∷ prints) zero d h = let e : j ≡ j + 0 = omega arith in ap print_at e
 body_at j (p ∷ prints) (suc k) d h = let e : suc j + k ≡ j + suc k = omega arith in body_at (suc j) prints k d (omega arith) ∙ ap print_at e
-
-pub unlinked_at : (n s : ℕ) → state_at (replicate n None) s ≡ None
-unlinked_at zero s = refl
-unlinked_at (suc n) zero = refl
-unlinked_at (suc n) (suc s) = unlinked_at n s
 
 pub zero_at : (n s : ℕ) → slice_index (replicate n 0) s ≡ 0
 zero_at n s = grind (arith, common_steps)

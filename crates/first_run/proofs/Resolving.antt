@@ -23,7 +23,7 @@ use Rattle.small_program.proofs.Lists.{all_at, get_behind, get_map}
 use Rattle.small_program.proofs.SiteFacts.{IsCall, Has, has_methods, numbered, site_print}
 use Rattle.small_program.proofs.SmallSound.{calls, has}
 use Rattle.small_program.proofs.Views.{constant_is}
-use Rattle.call_cell.specs.Sites.{selector_of}
+use Rattle.miss_handler.specs.Sites.{selector_of}
 use Rattle.first_form.specs.declared.form.MethodDecl.{MethodDecl}
 use Rattle.first_form.specs.declared.form.PrintStmt.{PrintStmt}
 use Rattle.first_form.specs.declared.form.Form.{Form}

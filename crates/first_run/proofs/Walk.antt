@@ -12,10 +12,10 @@ counted-append counts (call ∷ calls) second = counted-append (slice_set counts
 item_then : {A : Type 0} (xs : List A) (i : ℕ) (d : A) → i < length xs → drop i xs ≡ get_or xs i d ∷ drop (i + 1) xs
 item_then xs i d h = rw (add-one, drop-cons xs i d) refl
 
-went_on : (p : Part) (b : Act) → p.ending ≡ None → continued p b ≡ followed p (b p.turns)
+pub went_on : (p : Part) (b : Act) → p.ending ≡ None → continued p b ≡ followed p (b p.turns)
 went_on p b e = subst (λ o. (elim o [ None ↦ followed p (b p.turns) | Some x ↦ p ]) ≡ followed p (b p.turns)) (sym e) refl
 
-stopped : (p : Part) (b : Act) (x : Ending) → p.ending ≡ Some x → continued p b ≡ p
+pub stopped : (p : Part) (b : Act) (x : Ending) → p.ending ≡ Some x → continued p b ≡ p
 stopped p b x e = subst (λ o. (elim o [ None ↦ followed p (b p.turns) | Some x ↦ p ]) ≡ p) (sym e) refl
 
 module _ {C : Type 0} (After : C → List (ℕ × ℕ) → C → Type 0) (both : (a b c : C) (first second : List (ℕ × ℕ)) → After a first b → After b second c → After a (first ++ second) c) where

@@ -2,7 +2,11 @@
 use Rattle.std.specs.Prelude.{ℕ, List, [], ◌∷◌, ◌++◌, length, map, Option, None, Some, codes, fold, slice_get}
 use Rattle.std.specs.List.{flat_map, enumerate_from}
 use Rattle.std.specs.Fmt.{decimal}
-use Rattle.call_cell.specs.Sites.{after_call, classes_at}
+use Rattle.miss_handler.specs.declared.state.CallState.{CallState}
+use Rattle.miss_handler.specs.declared.state.CallState.TheVariants.{Unlinked, Mono, Single, Cached, Mega}
+use Rattle.call_cell.specs.declared.plain.PlainCells.{PlainCells}
+use Rattle.call_cell.specs.Kept.{classes_at}
+use Rattle.call_cell.specs.Plain.{kept}
 use Rattle.program.specs.declared.numbered.Class.{Class}
 use Rattle.first_run.specs.declared.report.SiteText.{SiteText}
 use Rattle.first_form.specs.declared.form.PrintStmt.{PrintStmt}
@@ -43,6 +47,26 @@ abbrev pub state_text : List Class → List ℕ → Option ℕ → List ℕ
 state_text all member None = codes "unlinked"
 state_text all member (Some c) = codes "mono " ++ name_of all c ++ codes " -> " ++ name_of all c ++ codes "." ++ member
 
+-- a state that the report shows: in a program of the first form each site is called on one class
+abbrev pub IsShown : CallState → Type 0
+IsShown Unlinked = Unit {0}
+IsShown (Mono a) = Unit {0}
+IsShown (Single lo hi t) = ⊥
+IsShown Cached = ⊥
+IsShown Mega = ⊥
+
+-- the class of a Mono
+abbrev pub mono_class : CallState → Option ℕ
+mono_class Unlinked = None
+mono_class (Mono a) = Some a.0
+mono_class (Single lo hi t) = None
+mono_class Cached = None
+mono_class Mega = None
+
+-- the class of the site's Mono, or none
+abbrev pub shown : PlainCells → ℕ → Option ℕ
+shown cells s = mono_class ((kept cells).site s).state
+
 -- the line of a site: its number, its selector, its place, how often it was called, and its state
 unfoldable pub site_line : List Class → (ℕ → ℕ) → (ℕ → Option ℕ) → ℕ × SiteText → List ℕ
 site_line all count state s =
@@ -55,9 +79,14 @@ site_lines all count state sites = codes "sites " ++ decimal (length sites) ++ c
 abbrev pub calls_at : List (ℕ × ℕ) → ℕ → ℕ
 calls_at asked s = length (classes_at s asked)
 
--- the state of a site after these calls, one after the other
+-- the class of the first call, once there was one
+abbrev pub first_of : Option ℕ → ℕ → Option ℕ
+first_of None c = Some c
+first_of (Some first) c = Some first
+
+-- the class of the first call of a site among these calls, one after the other
 abbrev pub alone : List (ℕ × ℕ) → ℕ → Option ℕ
-alone asked s = fold after_call None (classes_at s asked)
+alone asked s = fold first_of None (classes_at s asked)
 
 -- the calls of all entries, one after the other
 abbrev pub all_asked : List (List ℕ × EntryMeaning) → List (ℕ × ℕ)

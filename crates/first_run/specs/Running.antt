@@ -12,7 +12,7 @@ use Rattle.program.specs.declared.numbered.Target.{Target}
 use Rattle.program.specs.declared.numbered.Target.TheVariants as target
 use Rattle.program.specs.Bodies as c
 use Rattle.program.specs.Bodies.{Exp, exp}
-use Rattle.call_cell.specs.Sites.{selector_of}
+use Rattle.miss_handler.specs.Sites.{selector_of}
 use Rattle.first_run.specs.declared.running.PrintCall.{PrintCall}
 use Rattle.first_run.specs.declared.running.Ending.{Ending}
 use Rattle.first_run.specs.declared.running.Running.{Running}

@@ -1,9 +1,9 @@
 // The text of `run`.
-ghost use Rattle.std.specs.Prelude.{◌≡◌, ◌≤◌, ◌<◌, ◌+◌, ◌++◌, [], ◌∷◌, length, OnOk, IfOk, map, option_map, slice_index, codes, take, count_by, take_while, reverse, ◌==◌, not};
+ghost use Rattle.std.specs.Prelude.{◌≡◌, ◌≤◌, ◌<◌, ◌+◌, ◌++◌, [], ◌∷◌, ℕ, length, OnOk, IfOk, map, option_map, slice_index, codes, take, count_by, take_while, reverse, ◌==◌, not};
 ghost use Rattle.std.specs.List.{flat_map, enumerate_from};
 ghost use Rattle.std.specs.Fmt.{decimal};
-ghost use Rattle.call_cell.specs.Sites.{state_at};
-ghost use Rattle.first_run.specs.Report.{ending_text, name_of, state_text, site_line, site_lines, statement_site, prelude_sites, sites_of, printed, entry_part};
+ghost use Rattle.call_cell.specs.Plain.{linked_of, kept};
+ghost use Rattle.first_run.specs.Report.{IsShown, mono_class, shown, ending_text, name_of, state_text, site_line, site_lines, statement_site, prelude_sites, sites_of, printed, entry_part};
 
 use crate::places::push_place;
 use crate::running::{Ending, Running};
@@ -11,6 +11,7 @@ use crate::text::{push, push_number};
 use call_cell::PlainCells;
 use ds_base::NoMemory;
 use first_form::{Form, PrintStmt};
+use miss_handler::{CallState, SiteStates};
 use program::{Class, ClassId, SiteId};
 use sqlite_items::Items;
 use std::alloc::Global;
@@ -69,6 +70,18 @@ fn name_of(classes: &[Class], c: ClassId) -> &[u8]
     }
 }
 
+/// The class of a Mono.
+fn mono_class(state: CallState) -> Option<ClassId>
+    requires { IsShown state }
+    ensures { option_map (λ c. c.0) result ≡ mono_class state }
+{
+    match state {
+        CallState::Unlinked => None,
+        CallState::Mono(a) => Some(a),
+        CallState::Single(_, _, _) | CallState::Cached | CallState::Mega => unreachable!(),
+    }
+}
+
 fn push_state(
     out: &mut Vec<u8>,
     classes: &[Class],
@@ -119,15 +132,16 @@ fn push_site(
 ) -> Result<(), NoMemory>
     requires few { number ≤ 65536 }
     requires calls { number < length calls.now }
-    requires cells { number < length cells.now }
-    ensures { OnOk result (out.new.items ≡ out.old.items ++ site_line classes.now (slice_index calls.now) (state_at cells.now) (number, site.now)) }
+    requires cells { number < length (linked_of cells.now).program.sites }
+    requires states { (s : ℕ) → IsShown ((kept cells.now).site s).state }
+    ensures { OnOk result (out.new.items ≡ out.old.items ++ site_line classes.now (slice_index calls.now) (shown cells.now) (number, site.now)) }
 {
     push_number(alloc, out, number as u64)?;
     push(out, b" ")?;
     push(out, site.member.as_slice())?;
     push(out, b"/0 ")?;
     push(out, site.place.as_slice())?;
-    let state = cells.mono_at(SiteId(number as u32));
+    let state = mono_class(cells.state(SiteId(number as u32)));
     push_calls(
         alloc,
         out,
@@ -148,8 +162,9 @@ fn push_sites(
 ) -> Result<(), NoMemory>
     requires few { length sites.now ≤ 65536 }
     requires calls { length calls.now ≡ length sites.now }
-    requires cells { length cells.now ≡ length sites.now }
-    ensures { OnOk result (out.new.items ≡ out.old.items ++ site_lines classes.now (slice_index calls.now) (state_at cells.now) sites.now) }
+    requires cells { length (linked_of cells.now).program.sites ≡ length sites.now }
+    requires states { (s : ℕ) → IsShown ((kept cells.now).site s).state }
+    ensures { OnOk result (out.new.items ≡ out.old.items ++ site_lines classes.now (slice_index calls.now) (shown cells.now) sites.now) }
 {
     push(out, b"sites ")?;
     push_number(alloc, out, sites.len() as u64)?;
@@ -217,9 +232,10 @@ pub fn run_report(
     requires source { length source.now ≤ 1048576 }
     requires few { length form.now.prints ≤ 1000 }
     requires calls { length run.now.calls ≡ length form.now.prints + 2 }
-    requires cells { length cells.now ≡ length form.now.prints + 2 }
+    requires cells { length (linked_of cells.now).program.sites ≡ length form.now.prints + 2 }
+    requires states { (s : ℕ) → IsShown ((kept cells.now).site s).state }
     ensures { IfOk result (λ text. text.items ≡ entry_part 0 (codes "main") run.now.lines ending
-        ++ site_lines classes.now (slice_index run.now.calls) (state_at cells.now) (sites_of source.now form.now)) }
+        ++ site_lines classes.now (slice_index run.now.calls) (shown cells.now) (sites_of source.now form.now)) }
 {
     let sites = sites_of(alloc, source, form)?;
     let mut out = Vec::new(alloc);

@@ -3,7 +3,7 @@ ghost use Rattle.std.specs.Prelude.{◌≡◌, ◌<◌, ◌≤◌, ◌-◌, ◌+
 ghost use Rattle.std.specs.Fmt.{signed_decimal};
 ghost use Rattle.program.specs.Bodies.{exp};
 ghost use Rattle.program.specs.Parts.{is_concrete};
-ghost use Rattle.call_cell.specs.Sites.{selector_of};
+ghost use Rattle.miss_handler.specs.Sites.{selector_of};
 ghost use Rattle.first_run.specs.Running.{Did, number_in, constant_in, answer_in, code_answer, number_at, print_act, at_start};
 ghost use Rattle.first_run.specs.Meaning.{Part, ask, spend, emit, each, ◌▹◌};
 

@@ -11,12 +11,12 @@ use Rattle.atomic_table.specs.Table.{State, step, Act, Valid, carried_after, kee
 use Rattle.mega_cache.specs.declared.view.Sight.{Sight}
 use Rattle.mega_cache.specs.declared.view.Sight.TheVariants.{Root, Taken, Empty}
 use Rattle.mega_cache.specs.declared.view.MegaView.{MegaView}
-use Rattle.mega_cache.specs.Lists.{Each, Has}
+use Rattle.list_members.specs.Members.{Each, Has}
 use Rattle.mega_cache.specs.Places.{window_place, InGeneration}
 use Rattle.mega_cache.specs.Region.{About, Sound, word_at, width_of, entry_of, root_of, Other, Holds, PlaceOk, IsCrowded, Known, RegionOk, Ruled}
 use Rattle.mega_cache.specs.Told.{Sat, saw, RootIs, PlaceIs, root_loaded, root_raised, place_loaded, place_claimed, nothing, same, both}
 use Rattle.mega_cache.specs.Finds.{SawOthers}
-use Rattle.mega_cache.proofs.Members.{each_map, each_has, each_append}
+use Rattle.list_members.proofs.MemberFacts.{each_map, each_has, each_append}
 use Rattle.mega_cache.proofs.PlaceLaws.{one_gen, spot_in, spot_some, spot_inside, homes, pack_some, pack_inj, at_inj, at_inside, place_back, some_places}
 
 module _ (p : About) where

@@ -6,11 +6,11 @@ use Rattle.mega_cache.specs.declared.view.Sight.TheVariants.{Taken, Empty}
 use Rattle.mega_cache.specs.declared.view.MegaView.{MegaView}
 use Rattle.mega_cache.specs.declared.view.Found.{Found}
 use Rattle.mega_cache.specs.declared.view.Found.TheVariants.{At, Absent}
-use Rattle.mega_cache.specs.Lists.{Has}
+use Rattle.list_members.specs.Members.{Has}
 use Rattle.mega_cache.specs.Places.{window_place}
 use Rattle.mega_cache.specs.Told.{both}
 use Rattle.mega_cache.specs.Finds.{FindIs, FoundAgain, KeepsSeen, ReadOthers, ReadTo, StandsAt, with_read}
-use Rattle.mega_cache.proofs.Members.{has_left, has_right}
+use Rattle.list_members.proofs.MemberFacts.{has_left, has_right}
 use Rattle.mega_cache.proofs.PlaceLaws.{spot_in}
 
 pub keeps_all : (v : MegaView) → KeepsSeen v v

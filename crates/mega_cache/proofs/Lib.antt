@@ -1,4 +1,3 @@
-mod Members
 mod Homes
 mod PlaceLaws
 mod Programs

@@ -4,13 +4,13 @@ use native.Mathlib.Decide.{ℕ_discrete, dec_le}
 use Rattle.mega_cache.specs.declared.entry.Entry.{Entry}
 use Rattle.mega_cache.specs.declared.view.Sight.TheVariants.{Root, Taken, Empty}
 use Rattle.mega_cache.specs.declared.view.MegaView.{MegaView}
-use Rattle.mega_cache.specs.Lists.{Has}
+use Rattle.list_members.specs.Members.{Has}
 use Rattle.mega_cache.specs.Entries.{IsEntryOf, IsPacked}
 use Rattle.mega_cache.specs.Places.{InGeneration, capacity, window_place}
 use Rattle.mega_cache.specs.Region.{About, word_at, entry_of, Holds, Known}
 use Rattle.mega_cache.specs.Told.{saw, Learnt, RootIs, PlaceIs}
 use Rattle.mega_cache.specs.Finds.{RegionSeat, SeesPlace, SeesRoot, SawOthers}
-use Rattle.mega_cache.proofs.Members.{each_has}
+use Rattle.list_members.proofs.MemberFacts.{each_has}
 use Rattle.mega_cache.proofs.PlaceLaws.{cap_up, one_gen, spot_in, pack_some, pack_inj}
 use Rattle.mega_cache.proofs.Keeps.{entry_inj}
 

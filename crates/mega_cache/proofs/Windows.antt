@@ -3,12 +3,12 @@ use Rattle.std.proofs.Common.{◌≡◌, ◌≢◌, ℕ, zero, suc, ◌+◌, ◌
 use Rattle.mega_cache.specs.declared.view.Sight.{Sight}
 use Rattle.mega_cache.specs.declared.view.Sight.TheVariants.{Root, Taken, Empty}
 use Rattle.mega_cache.specs.declared.view.MegaView.{MegaView}
-use Rattle.mega_cache.specs.Lists.{Has}
+use Rattle.list_members.specs.Members.{Has}
 use Rattle.mega_cache.specs.Places.{window_place}
 use Rattle.mega_cache.specs.Region.{About, width_of}
 use Rattle.mega_cache.specs.Told.{saw}
 use Rattle.mega_cache.specs.Finds.{SawOthers, ReadOthers, with_read, StandsAt}
-use Rattle.mega_cache.proofs.Members.{has_right}
+use Rattle.list_members.proofs.MemberFacts.{has_right}
 use Rattle.mega_cache.proofs.PlaceLaws.{spot_in, spot_some, spot_inside}
 
 pub has_saw : (v w : MegaView) (s t : Sight) → w ≡ saw v s → Has t v.seen → Has t w.seen

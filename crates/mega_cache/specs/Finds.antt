@@ -13,7 +13,7 @@ use Rattle.mega_cache.specs.declared.view.Found.{Found}
 use Rattle.mega_cache.specs.declared.view.Found.TheVariants.{At, Absent}
 use Rattle.mega_cache.specs.declared.table.MegaTable.{MegaTable}
 use Rattle.mega_cache.specs.declared.table.MegaPass.{MegaPass}
-use Rattle.mega_cache.specs.Lists.{Has}
+use Rattle.list_members.specs.Members.{Has}
 use Rattle.mega_cache.specs.Places.{last_generation, window_place, InGeneration}
 use Rattle.mega_cache.specs.Region.{About, about_of, word_at}
 use Rattle.mega_cache.specs.Told.{Learnt, saw}

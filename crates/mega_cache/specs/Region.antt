@@ -10,7 +10,7 @@ use Rattle.method_lookup.specs.declared.linked.Linked.{Linked}
 use Rattle.mega_cache.specs.declared.view.Sight.{Sight}
 use Rattle.mega_cache.specs.declared.view.Sight.TheVariants.{Root, Taken, Empty}
 use Rattle.mega_cache.specs.declared.view.MegaView.{MegaView}
-use Rattle.mega_cache.specs.Lists.{Each}
+use Rattle.list_members.specs.Members.{Each}
 use Rattle.mega_cache.specs.Entries.{packed, method_of}
 use Rattle.mega_cache.specs.Places.{capacity, last_generation, words_up_to, window_place}
 

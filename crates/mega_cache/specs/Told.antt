@@ -4,7 +4,7 @@ use Rattle.atomic_table.specs.Table.{Me, Step}
 use Rattle.mega_cache.specs.declared.view.Sight.{Sight}
 use Rattle.mega_cache.specs.declared.view.Sight.TheVariants.{Root, Taken, Empty}
 use Rattle.mega_cache.specs.declared.view.MegaView.{MegaView}
-use Rattle.mega_cache.specs.Lists.{Each}
+use Rattle.list_members.specs.Members.{Each}
 use Rattle.mega_cache.specs.Region.{About, word_at, entry_of, width_of, root_of, Known, RegionOk}
 
 -- one atomic step

@@ -10,8 +10,7 @@ use Rattle.miss_handler.specs.declared.state.CallState.{CallState}
 use Rattle.miss_handler.specs.declared.state.CallState.TheVariants.{Unlinked, Mono, Single, Cached, Mega}
 use Rattle.miss_handler.specs.Sites.{receivers, receivers_at, selector_of, IsNamed}
 use Rattle.miss_handler.proofs.Moves.{move_lawful_state}
-use Rattle.cell_rule.specs.declared.words.Info.{Info}
-use Rattle.cell_rule.specs.About.{About, about_of, state_target}
+use Rattle.cell_rule.specs.About.{About, about_of}
 use Rattle.cell_rule.proofs.Programs.{sound_of}
 
 pub call_site : (p : About) (linked : Linked) (x site : ℕ) → p ≡ about_of linked → x ≡ site → x < p.sites → site < length linked.program.sites

@@ -1,27 +1,27 @@
 -- Words that are read one after the other.
-use Rattle.std.proofs.Common.{◌≡◌, ◌≢◌, ℕ, zero, suc, ◌+◌, ◌<◌, Bool, true, false, List, [], ◌∷◌, ◌++◌, sym, refl, ap, ◌∙◌, subst, ⊎_elim, inl, inr, arith, below_more}
+use Rattle.std.proofs.Common.{◌≡◌, ◌≢◌, ℕ, zero, suc, ◌+◌, ◌<◌, ◌≤◌, Bool, true, false, List, [], ◌∷◌, ◌++◌, sym, refl, ap, ◌∙◌, subst, ⊎_elim, inl, inr, arith, below_more}
 use Rattle.program.specs.declared.numbered.Target.{Target}
 use Rattle.miss_handler.specs.declared.row.Check.{Check}
 use Rattle.miss_handler.specs.declared.state.CallState.{CallState}
-use Rattle.miss_handler.specs.declared.state.CallState.TheVariants.{Unlinked, Mono, Single, Cached, Mega}
+use Rattle.miss_handler.specs.declared.state.CallState.TheVariants.{Mono}
 use Rattle.miss_handler.specs.States.{check, class_id, IsRight}
 use Rattle.cell_rule.specs.declared.words.Info.{Info}
 use Rattle.cell_rule.specs.declared.view.Seen.{Seen}
 use Rattle.cell_rule.specs.declared.view.Seen.TheVariants.{Head, Data, Set, Empty}
-use Rattle.cell_rule.specs.declared.view.Asked.{Asked}
 use Rattle.cell_rule.specs.declared.view.View.{View}
 use Rattle.cell_rule.specs.declared.table.CellWords.{CellWords}
-use Rattle.cell_rule.specs.Lists.{Has}
+use Rattle.list_members.specs.Members.{Has}
 use Rattle.cell_rule.specs.Words.{CheckFits}
 use Rattle.cell_rule.specs.About.{About}
-use Rattle.cell_rule.specs.Histories.{Known, call}
+use Rattle.cell_rule.specs.Stamps.{data_stamp}
+use Rattle.cell_rule.specs.Histories.{Known}
 use Rattle.cell_rule.specs.Told.{goes_on}
 use Rattle.cell_rule.specs.Steps.{Place, SameSeat, Knows, IsCurrent, CachedSeen, CallsIt, OthersSeen}
-use Rattle.cell_rule.proofs.Basics.{each_has, has_right}
+use Rattle.list_members.proofs.MemberFacts.{each_has, has_right}
 use Rattle.cell_rule.proofs.Rows.{all_at}
 use Rattle.cell_rule.proofs.Effects.{right_fits}
 use Rattle.shared_cells.specs.Callings.{CanCall}
-use Rattle.shared_cells.specs.Reading.{reads, Others, InRow, ReadsOn, StandsSeen, Standing, Placed, FirstPlaced}
+use Rattle.shared_cells.specs.Reading.{reads, Others, Standing, Placed}
 
 -- one word more
 pub read_more : (v w u : View) (l : List Seen) (s : Seen) → w ≡ reads v l → u ≡ goes_on w s → u ≡ reads v (s ∷ l)
@@ -92,3 +92,8 @@ mono_inj a b e = ap number e
 
 pub same_on : (a b c : Place) → SameSeat a b → SameSeat b c → SameSeat a c
 same_on a b c s t = (t.0 ∙ s.0, t.1 ∙ s.1, t.2 ∙ s.2)
+
+-- words that are seen too lower no stamp
+pub stamp_append : (x : ℕ) (m l : List Seen) → data_stamp x l ≤ data_stamp x (m ++ l)
+stamp_append x [] l = omega arith
+stamp_append x (s ∷ m) l = let more = stamp_append x m l in omega arith

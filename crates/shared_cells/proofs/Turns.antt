@@ -1,5 +1,5 @@
 -- What the steps of a dispatch give together.
-use Rattle.std.proofs.Common.{◌≡◌, ◌≢◌, ◌⊎◌, ℕ, zero, suc, ◌+◌, ◌-◌, ◌*◌, ◌<◌, ◌≤◌, ◌==◌, cond, Bool, true, false, IsTrue, List, [], ◌∷◌, ◌++◌, length, Some, None, max, sym, refl, ap, ◌∙◌, subst, ⊎_elim, inl, inr, arith, ne_eqb, append_assoc}
+use Rattle.std.proofs.Common.{◌≡◌, ◌≢◌, ◌⊎◌, ℕ, zero, suc, ◌+◌, ◌-◌, ◌*◌, ◌<◌, ◌≤◌, ◌==◌, cond, Bool, true, false, IsTrue, List, [], ◌∷◌, ◌++◌, Some, None, max, sym, refl, ap, ◌∙◌, subst, ⊎_elim, inl, inr, arith, ne_eqb, append_assoc}
 use Rattle.std.proofs.lemmas.Bool.{eq-eqb}
 use native.Mathlib.Decide.{ℕ_discrete}
 use mathlib.Core.Logic.{dite}
@@ -9,7 +9,7 @@ use Rattle.program.specs.declared.numbered.Target.{Target}
 use Rattle.miss_handler.specs.declared.row.Check.{Check}
 use Rattle.miss_handler.specs.declared.state.CallState.{CallState}
 use Rattle.miss_handler.specs.declared.state.CallState.TheVariants.{Unlinked, Mono, Single, Cached, Mega}
-use Rattle.miss_handler.specs.States.{Receivers, check, class_id, Explains, LawfulState, Move, IsCachedOrMega, has}
+use Rattle.miss_handler.specs.States.{check, Explains, LawfulState, Move, IsCachedOrMega, has}
 use Rattle.miss_handler.proofs.Moves.{move_explains, move_lawful_state}
 use Rattle.call_cell.specs.declared.cells.How.{How}
 use Rattle.call_cell.specs.declared.cells.How.TheVariants.{Hit, Miss}
@@ -19,17 +19,17 @@ use Rattle.cell_rule.specs.declared.view.Seen.{Seen}
 use Rattle.cell_rule.specs.declared.view.Seen.TheVariants.{Head, Data, Set, Empty}
 use Rattle.cell_rule.specs.declared.view.Change.{Change}
 use Rattle.cell_rule.specs.declared.view.View.{View}
-use Rattle.cell_rule.specs.Lists.{Each, Has}
+use Rattle.list_members.specs.Members.{Each, Has}
 use Rattle.cell_rule.specs.Words.{IsSmall, info, no_target, entry_of, DataFits, TargetFits}
 use Rattle.cell_rule.specs.About.{About, state_target, LawfulInfo}
-use Rattle.cell_rule.specs.Histories.{Histories, present, Known, RowSeen, Moved}
+use Rattle.cell_rule.specs.Histories.{Histories, Known, RowSeen, Moved}
 use Rattle.cell_rule.specs.Stamps.{head_part, data_part, head_stamp, data_stamp, Settled}
 use Rattle.cell_rule.specs.Told.{Learnt, sees, goes_on, installs, change, HeadSeen, DataSeen, Won}
 use Rattle.cell_rule.specs.Steps.{Knows, OthersSeen}
-use Rattle.cell_rule.proofs.Basics.{each_has, has_left, has_right}
+use Rattle.list_members.proofs.MemberFacts.{each_has, has_left, has_right}
 use Rattle.cell_rule.proofs.Rows.{moved_small, none_has}
 use Rattle.cell_rule.proofs.Growth.{data_fits, entry_fits}
-use Rattle.cell_rule.proofs.Endings.{head_has, data_has, data_known, head_known}
+use Rattle.cell_rule.proofs.Endings.{head_has, data_has, data_known}
 use Rattle.shared_cells.specs.declared.answer.Ask.{Ask}
 use Rattle.shared_cells.specs.declared.answer.Ask.TheVariants.{Nothing}
 use Rattle.shared_cells.specs.declared.answer.Answer.{Answer}

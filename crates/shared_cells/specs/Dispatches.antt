@@ -9,7 +9,7 @@ use Rattle.shared_cells.specs.declared.answer.Answer.{Answer}
 use Rattle.shared_cells.specs.declared.answer.Point.{Point}
 use Rattle.cell_rule.specs.declared.view.Seen.{Seen}
 use Rattle.cell_rule.specs.declared.view.View.{View}
-use Rattle.cell_rule.specs.Lists.{Each}
+use Rattle.list_members.specs.Members.{Each}
 use Rattle.cell_rule.specs.About.{About}
 use Rattle.shared_cells.specs.Runs.{CoversBy, MissesBy, first_pair, last_stamp, After, Stood, MegaSeen, MegaFirst, Kept, IsMove, Running}
 use Rattle.cell_rule.specs.Stamps.{head_stamp, data_stamp}

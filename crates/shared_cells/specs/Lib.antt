@@ -4,3 +4,4 @@ pub mod Dispatches
 pub mod Calls
 pub mod Callings
 pub mod Tables
+pub mod Shared

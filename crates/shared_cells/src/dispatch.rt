@@ -8,6 +8,7 @@ ghost use Rattle.shared_cells.specs.Dispatches.{Answers, Turned};
 ghost use Rattle.std.specs.Prelude.{◌≡◌, ◌≢◌, ◌+◌, ◌*◌, ◌≤◌, false};
 
 use crate::answer::{Answer, Ask, Point, Sought};
+use crate::between::Between;
 use crate::row::{add_first, seek, take};
 use crate::states::{covers_itself, is_cached, is_mega, next_info, resolve};
 use atomic_table::Seat;
@@ -65,7 +66,7 @@ fn settle<N: Call, L: Ledger>(
 }
 
 /// Moves a site that does not explain the class.
-fn moves<N: Call, L: Ledger>(
+fn moves<N: Call, B: Between, L: Ledger>(
     words: &CellWords,
     seat: &mut Seat<(), View>,
     linked: &Linked,
@@ -73,6 +74,7 @@ fn moves<N: Call, L: Ledger>(
     class: ClassId,
     at: Point,
     info: Info,
+    between: &B,
     steps: &mut Steps<L>,
 ) -> Result<Answer, Point>
     requires named { IsCallOf N.about N.site N.class words.now linked.now site.0 class.0 }
@@ -87,6 +89,7 @@ fn moves<N: Call, L: Ledger>(
     let pair = (at.head.0, info);
     match advance_data::<N, L>(words, seat, site, pair, next, steps) {
         None => {
+            between.between();
             finish_target::<N, L>(words, seat, site, at.head, next, steps);
             settle::<N, L>(words, seat, linked, site, class, at, info, next, steps)
         }
@@ -102,7 +105,7 @@ fn moves<N: Call, L: Ledger>(
 }
 
 /// Moves a site whose four checks have other classes.
-fn widen<N: Call, L: Ledger>(
+fn widen<N: Call, B: Between, L: Ledger>(
     words: &CellWords,
     seat: &mut Seat<(), View>,
     linked: &Linked,
@@ -110,6 +113,7 @@ fn widen<N: Call, L: Ledger>(
     class: ClassId,
     at: Point,
     info: Info,
+    between: &B,
     steps: &mut Steps<L>,
 ) -> Result<Answer, Point>
     requires named { IsCallOf N.about N.site N.class words.now linked.now site.0 class.0 }
@@ -128,6 +132,7 @@ fn widen<N: Call, L: Ledger>(
     };
     match advance_data::<N, L>(words, seat, site, (stamp, info), next, steps) {
         None => {
+            between.between();
             finish_target::<N, L>(words, seat, site, at.head, next, steps);
             Ok(Answer {
                 target: resolve(linked, site, class),
@@ -148,7 +153,7 @@ fn widen<N: Call, L: Ledger>(
 }
 
 /// Answers by the checks of a row, or adds the class to them.
-fn checked<N: Call, L: Ledger>(
+fn checked<N: Call, B: Between, L: Ledger>(
     words: &CellWords,
     seat: &mut Seat<(), View>,
     linked: &Linked,
@@ -156,6 +161,7 @@ fn checked<N: Call, L: Ledger>(
     class: ClassId,
     at: Point,
     info: Info,
+    between: &B,
     steps: &mut Steps<L>,
 ) -> Result<Answer, Point>
     requires named { IsCallOf N.about N.site N.class words.now linked.now site.0 class.0 }
@@ -187,15 +193,17 @@ fn checked<N: Call, L: Ledger>(
                     asks: Ask::Nothing,
                 })
             } else {
-                widen::<N, L>(words, seat, linked, site, class, at, info, steps)
+                widen::<N, B, L>(words, seat, linked, site, class, at, info, between, steps)
             }
         }
-        Sought::Full => widen::<N, L>(words, seat, linked, site, class, at, info, steps),
+        Sought::Full => widen::<N, B, L>(
+            words, seat, linked, site, class, at, info, between, steps,
+        ),
     }
 }
 
 /// Goes on from a pair with equal stamps.
-fn level<N: Call, L: Ledger>(
+fn level<N: Call, B: Between, L: Ledger>(
     words: &CellWords,
     seat: &mut Seat<(), View>,
     linked: &Linked,
@@ -203,6 +211,7 @@ fn level<N: Call, L: Ledger>(
     class: ClassId,
     at: Point,
     info: Info,
+    between: &B,
     steps: &mut Steps<L>,
 ) -> Result<Answer, Point>
     requires named { IsCallOf N.about N.site N.class words.now linked.now site.0 class.0 }
@@ -224,7 +233,7 @@ fn level<N: Call, L: Ledger>(
         });
     }
     if is_cached(info.state) {
-        return checked::<N, L>(words, seat, linked, site, class, at, info, steps);
+        return checked::<N, B, L>(words, seat, linked, site, class, at, info, between, steps);
     }
     if is_mega(info.state) {
         let target = resolve(linked, site, class);
@@ -240,17 +249,18 @@ fn level<N: Call, L: Ledger>(
             asks,
         });
     }
-    moves::<N, L>(words, seat, linked, site, class, at, info, steps)
+    moves::<N, B, L>(words, seat, linked, site, class, at, info, between, steps)
 }
 
 /// One turn. Ok is the answer, and Err the point from which to go on.
-fn turn<N: Call, L: Ledger>(
+fn turn<N: Call, B: Between, L: Ledger>(
     words: &CellWords,
     seat: &mut Seat<(), View>,
     linked: &Linked,
     site: SiteId,
     class: ClassId,
     at: Point,
+    between: &B,
     steps: &mut Steps<L>,
 ) -> Result<Answer, Point>
     requires named { IsCallOf N.about N.site N.class words.now linked.now site.0 class.0 }
@@ -264,7 +274,7 @@ fn turn<N: Call, L: Ledger>(
     let tried = at.tried;
     let (newest, info) = load_data::<N, L>(words, seat, site, steps);
     if newest == stamp {
-        return level::<N, L>(words, seat, linked, site, class, at, info, steps);
+        return level::<N, B, L>(words, seat, linked, site, class, at, info, between, steps);
     }
     if newest - stamp == 1 {
         finish_target::<N, L>(words, seat, site, at.head, info, steps);
@@ -284,12 +294,13 @@ fn turn<N: Call, L: Ledger>(
 }
 
 /// Opens a call and answers it.
-pub fn run<N: Call, L: Ledger>(
+pub fn run<N: Call, B: Between, L: Ledger>(
     words: &CellWords,
     seat: &mut Seat<(), View>,
     linked: &Linked,
     site: SiteId,
     class: ClassId,
+    between: &B,
     steps: &mut Steps<L>,
 ) -> Answer
     requires named { IsCallOf N.about N.site N.class words.now linked.now site.0 class.0 }
@@ -307,7 +318,7 @@ pub fn run<N: Call, L: Ledger>(
         tried: false,
     };
     'turns: loop {
-        match turn::<N, L>(words, seat, linked, site, class, at, steps) {
+        match turn::<N, B, L>(words, seat, linked, site, class, at, between, steps) {
             Ok(answer) => return answer,
             Err(to) => at = to,
         }

@@ -2,7 +2,7 @@
 ghost use Rattle.program.specs.Parts.{is_concrete};
 ghost use Rattle.miss_handler.specs.Sites.{receivers_at};
 ghost use Rattle.cell_rule.specs.About.{about_of};
-ghost use Rattle.cell_rule.specs.Lists.{Each};
+ghost use Rattle.list_members.specs.Members.{Each};
 ghost use Rattle.cell_rule.specs.Stamps.{data_stamp};
 ghost use Rattle.cell_rule.specs.Steps.{Coherent, EndsAs};
 ghost use Rattle.cell_rule.specs.Told.{newcomer, kept, given, joined};
@@ -13,6 +13,7 @@ ghost use Rattle.std.specs.Mem.Slots.{slots_items, slots_len, IsFull};
 ghost use Rattle.std.specs.Prelude.{◌≡◌, ◌+◌, ◌*◌, ◌<◌, ◌≤◌, IfOk, IsTrue, length};
 
 use crate::answer::Answer;
+use crate::between::Between;
 use crate::dispatch::run;
 use crate::table::{CellTable, Pass};
 use atomic_table::Closed;
@@ -74,13 +75,14 @@ impl Pass {
         table.words.join(&mut self.seat, seat);
     }
 
-    /// Answers a call of the class at the site.
-    pub fn dispatch<L: Ledger>(
+    /// Answers a call of the class at the site. What stands between is asked after each advance of a data word, before its target word is finished.
+    pub fn dispatch<B: Between, L: Ledger>(
         &mut self,
         table: &CellTable,
         linked: &Linked,
         site: SiteId,
         class: ClassId,
+        between: &B,
         steps: &mut Steps<L>,
     ) -> Answer
         requires own { IsOf table.now self.old }
@@ -99,6 +101,14 @@ impl Pass {
         ensures steps { steps.new ≤ steps.old + (24 * length linked.now.program.classes + 61) }
         ensures bound { steps.new ≤ steps.old + 64 * (length linked.now.program.classes + 3) }
     {
-        run::<Brand, L>(&table.words, &mut self.seat, linked, site, class, steps)
+        run::<Brand, B, L>(
+            &table.words,
+            &mut self.seat,
+            linked,
+            site,
+            class,
+            between,
+            steps,
+        )
     }
 }

@@ -1,7 +1,7 @@
 // Looks through the checks of a site, and adds to them.
 ghost use Rattle.miss_handler.specs.declared.state.CallState.TheVariants.{Mono};
 ghost use Rattle.miss_handler.specs.States.{class_id};
-ghost use Rattle.cell_rule.specs.Lists.{Has};
+ghost use Rattle.list_members.specs.Members.{Has};
 ghost use Rattle.cell_rule.specs.Steps.{IsNamed, SameSeat, Knows, CachedSeen, CallsIt, OthersSeen};
 ghost use Rattle.cell_rule.specs.Words.{CheckFits};
 ghost use Rattle.shared_cells.specs.Callings.{IsCall, IsNamedOf, CanCall};

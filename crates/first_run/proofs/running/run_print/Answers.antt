@@ -1,6 +1,6 @@
 use Rattle.std.proofs.Common.{◌≡◌, ◌∙◌, sym, ap, None, refl, ◌++◌, ◌∷◌, []}
 use Rattle.std.specs.Fmt.{signed_decimal}
-use Rattle.call_cell.specs.Sites.{selector_of}
+use Rattle.miss_handler.specs.Sites.{selector_of}
 use Rattle.first_run.specs.Meaning.{ask, spend, emit}
 use Rattle.first_run.specs.Running.{Did, number_at}
 use Rattle.first_run.proofs.Walk.{did_both, did_spend, did_emit}

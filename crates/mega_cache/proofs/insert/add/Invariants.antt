@@ -1,6 +1,6 @@
 use Rattle.std.proofs.Common.{◌+◌, ◌-◌, ◌*◌, ◌≤◌}
 use Rattle.mega_cache.specs.declared.view.Sight.TheVariants.{Root}
-use Rattle.mega_cache.specs.Lists.{Has}
+use Rattle.list_members.specs.Members.{Has}
 use Rattle.mega_cache.specs.Finds.{SameSeat, InReach, KeepsSeen}
 use Rattle.mega_cache.proofs.insert.add.Given as goal
 

@@ -1,8 +1,8 @@
-use Rattle.std.proofs.Common.{◌≡◌, ◌<◌, ℕ, List, ◌∷◌, sym, refl, ◌∙◌, subst, inl, inr}
+use Rattle.std.proofs.Common.{◌<◌, ℕ, List, ◌∷◌, sym, refl, ◌∙◌, subst, inl, inr}
 use Rattle.cell_rule.specs.declared.view.Seen.{Seen}
 use Rattle.cell_rule.specs.declared.view.Seen.TheVariants.{Set, Empty}
 use Rattle.cell_rule.specs.declared.view.View.{View}
-use Rattle.cell_rule.specs.Lists.{Each, Has}
+use Rattle.list_members.specs.Members.{Each, Has}
 use Rattle.miss_handler.specs.States.{check}
 use Rattle.cell_rule.specs.Steps.{OthersSeen}
 use Rattle.shared_cells.specs.Reading.{InRow, StandsSeen}

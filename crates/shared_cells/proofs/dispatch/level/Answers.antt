@@ -1,4 +1,4 @@
-use Rattle.std.proofs.Common.{◌≡◌, [], true, sym, refl, ◌∙◌, subst, inr}
+use Rattle.std.proofs.Common.{◌≡◌, [], true, sym, refl, ◌∙◌, subst}
 use Rattle.shared_cells.specs.Runs.{CoversItself}
 use Rattle.miss_handler.specs.declared.state.CallState.TheVariants.{Cached, Mega}
 use Rattle.shared_cells.proofs.Names.{call_site, call_class}

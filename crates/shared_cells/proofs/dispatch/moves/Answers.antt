@@ -1,4 +1,4 @@
-use Rattle.std.proofs.Common.{◌≡◌, ◌+◌, ℕ, List, [], sym, ◌∙◌, ap, subst}
+use Rattle.std.proofs.Common.{◌≡◌, ◌+◌, ℕ, List, [], sym, ◌∙◌, subst}
 use Rattle.method_lookup.specs.declared.linked.Linked.{Linked}
 use Rattle.miss_handler.specs.States.{Explains, LawfulState, Move}
 use Rattle.miss_handler.specs.Sites.{receivers_at}

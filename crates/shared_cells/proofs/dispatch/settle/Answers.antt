@@ -1,10 +1,10 @@
-use Rattle.std.proofs.Common.{◌≡◌, ◌≢◌, ◌<◌, ℕ, ◌+◌, sym, refl, ◌∙◌, subst, inl, inr}
+use Rattle.std.proofs.Common.{◌≢◌, ◌<◌, ℕ, ◌+◌, sym, refl, ◌∙◌, subst, inl, inr}
 use Rattle.miss_handler.specs.declared.state.CallState.{CallState}
 use Rattle.miss_handler.specs.declared.state.CallState.TheVariants.{Cached}
 use Rattle.cell_rule.specs.declared.view.Seen.{Seen}
 use Rattle.cell_rule.specs.declared.view.Change.{Change}
 use Rattle.cell_rule.specs.declared.view.View.{View}
-use Rattle.cell_rule.specs.Lists.{Each, Has}
+use Rattle.list_members.specs.Members.{Each, Has}
 use Rattle.miss_handler.specs.States.{check}
 use Rattle.cell_rule.specs.Told.{change}
 use Rattle.shared_cells.specs.Reading.{StandsSeen, FirstPlaced, ReadsOn}

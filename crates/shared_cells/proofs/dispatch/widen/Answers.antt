@@ -1,9 +1,9 @@
-use Rattle.std.proofs.Common.{◌≡◌, ℕ, ◌+◌, sym, refl, ◌∙◌, subst, inr}
+use Rattle.std.proofs.Common.{◌≡◌, ◌+◌, sym, refl, ◌∙◌}
 use Rattle.miss_handler.specs.declared.state.CallState.TheVariants.{Cached, Mega}
 use Rattle.cell_rule.specs.declared.words.Info.{Info}
 use Rattle.cell_rule.specs.Words.{info, no_target}
 use Rattle.shared_cells.proofs.Names.{call_site, call_class}
-use Rattle.shared_cells.proofs.Turns.{data_seen_too, head_seen_too, level_fits, level_entries, head_after, won, moving_answers, lost_round, moved_full, is_move, is_cached}
+use Rattle.shared_cells.proofs.Turns.{data_seen_too, head_seen_too, level_fits, level_entries, head_after, won, moving_answers, lost_round, moved_full, is_move}
 use Rattle.shared_cells.proofs.dispatch.widen.Goals as goal
 
 not_cached : Cached ≡ Mega → ⊥

@@ -1,4 +1,4 @@
-use Rattle.std.proofs.Common.{◌≡◌, ℕ, sym, ap, ◌∙◌, subst, inr, arith}
+use Rattle.std.proofs.Common.{ℕ, sym, ap, ◌∙◌, subst, inr, arith}
 use Rattle.miss_handler.specs.States.{check}
 use Rattle.cell_rule.specs.About.{About}
 use Rattle.shared_cells.specs.Reading.{Placed}

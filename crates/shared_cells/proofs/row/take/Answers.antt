@@ -1,7 +1,7 @@
 use Rattle.std.proofs.Common.{ℕ, ◌∷◌, refl, subst, arith}
 use Rattle.miss_handler.specs.States.{check}
 use Rattle.cell_rule.specs.declared.view.Seen.TheVariants.{Set}
-use Rattle.cell_rule.specs.Lists.{Has}
+use Rattle.list_members.specs.Members.{Has}
 use Rattle.shared_cells.proofs.Reading.{read_more, reach_more, newest_has, others_next, same_on, cached_reads, calls_reads}
 use Rattle.shared_cells.proofs.row.take.Goals as goal
 

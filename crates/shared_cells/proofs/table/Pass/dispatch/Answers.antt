@@ -1,4 +1,4 @@
-use Rattle.std.proofs.Common.{ℕ, IsTrue, ◌∙◌, refl, subst, sym, arith}
+use Rattle.std.proofs.Common.{◌∙◌, arith}
 use Rattle.shared_cells.proofs.Names.{concrete_call}
 use Rattle.shared_cells.proofs.Turns.{stays_settled}
 use Rattle.shared_cells.proofs.table.Pass.dispatch.Goals as goal

@@ -1,6 +1,6 @@
--- Members of lists.
+-- Laws of what each member has, and of members of two lists together.
 use Rattle.std.proofs.Common.{◌≡◌, List, [], ◌∷◌, ◌++◌, sym, subst, ⊎_elim, inl, inr}
-use Rattle.cell_rule.specs.Lists.{Each, Has}
+use Rattle.list_members.specs.Members.{Each, Has}
 
 module _ {A : Type 0} where
   pub each_map : (P Q : A → Type 0) (l : List A) → ((a : A) → P a → Q a) → Each P l → Each Q l

@@ -1,0 +1,2 @@
+//! What holds of each member of a list, and that a value is one.
+#![tactic(auto)]
