@@ -1,0 +1,15 @@
+pub mod Layouts
+pub mod Destinations
+pub mod Expressions
+pub mod Statements
+pub mod Bodies
+pub mod ConstructorBodies
+pub mod ListText
+pub mod Parameters
+pub mod Units
+pub mod Entering
+pub mod EntryPoints
+pub mod Outcomes
+pub mod Whole
+pub mod Nodes
+pub mod NodesPay

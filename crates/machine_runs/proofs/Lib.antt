@@ -1,0 +1,12 @@
+pub mod Lists
+pub mod Loaded
+pub mod Runs
+pub mod Calls
+pub mod Points
+pub mod Instructions
+pub mod Slots
+pub mod BodyCalls
+pub mod Constructions
+pub mod Flows
+pub mod Loops
+pub mod Asks
