@@ -1,0 +1,3 @@
+mod Views
+mod Counts
+pub mod Opens

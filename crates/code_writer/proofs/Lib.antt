@@ -1,0 +1,4 @@
+mod Sets
+pub mod Tables
+pub mod Writing
+pub mod Whole

@@ -1,0 +1,3 @@
+mod BodiesOfUnits
+mod Growing
+mod Pools

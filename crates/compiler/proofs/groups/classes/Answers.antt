@@ -1,0 +1,18 @@
+use Rattle.std.proofs.Common.{arith, refl, sym, subst, length, ◌+◌}
+use Rattle.std.proofs.lemmas.Option.{slice_get_read}
+use Rattle.compiler.specs.Units.{Built, ClassHas}
+use Rattle.compiler.proofs.Growing.{built_none, built_next, grows_self, grows_on, class_grows}
+use Rattle.compiler.proofs.groups.classes.Goals as goal
+
+pub loop-k-init : goal.loop-k-init
+loop-k-init c =
+    (subst (Built (ClassHas c.args.base c.args.units.now.items c.args.out.now.table) c.args.all.now 0) (sym c.new-ids.ensures.items) (built_none _ _), grows_self _ _)
+
+pub loop-k-preserved : goal.loop-k-preserved
+loop-k-preserved c =
+    let there = slice_get_read c.args.all.now (length c.args.all.now) c.loop-k.k-index c.k-item.result refl (omega arith) c.k-item.is in
+    let grows = c.in_ok-class.ensures.grows in (
+      subst (Built (ClassHas c.args.base c.class.new.units.items c.class.new.out.table) c.args.all.now (c.loop-k.k-index + 1)) (sym c.in_ok-push.ensures.items)
+          (built_next (ClassHas c.args.base c.loop-k.units.items c.loop-k.out.table) (ClassHas c.args.base c.class.new.units.items c.class.new.out.table) (class_grows c.args.base grows) c.args.all.now c.loop-k.k-index c.k-item.result _ _ there c.in_ok-class.ensures.has c.loop-k.invariant.0),
+      grows_on c.loop-k.invariant.1 grows,
+    )

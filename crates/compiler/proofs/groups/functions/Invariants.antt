@@ -1,0 +1,8 @@
+-- Those before have their units.
+use Rattle.compiler.specs.Units.{Built, Grows, FunctionHas}
+use Rattle.compiler.proofs.groups.functions.Given as goal
+
+abbrev pub invariant-loop-k : goal.invariant-loop-k
+invariant-loop-k l =
+    Built (FunctionHas l.base l.units.items l.out.table) l.all l.k-index l.ids.items
+    × Grows l.initial.units.items l.initial.out.table l.units.items l.out.table
