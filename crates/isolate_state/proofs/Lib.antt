@@ -1,0 +1,13 @@
+pub mod Steps
+pub mod Held
+pub mod Moves
+pub mod Branches
+pub mod Grown
+pub mod Makes
+pub mod Returns
+pub mod Enters
+pub mod Fills
+pub mod Things
+pub mod Receives
+pub mod Wants
+pub mod Chains

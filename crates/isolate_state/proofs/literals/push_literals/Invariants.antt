@@ -1,0 +1,13 @@
+use Rattle.std.proofs.Common.{◌≡◌, ◌++◌, map, take}
+use Rattle.std.specs.Prelude.{All}
+use Rattle.dart_values.specs.Store.{IsOf, Keeps, values_of, heap_of}
+use Rattle.dart_meaning.specs.Literals.{literal}
+use Rattle.isolate_state.proofs.literals.push_literals.Given as goal
+
+abbrev pub invariant-loop-literal : goal.invariant-loop-literal
+invariant-loop-literal l = record {
+  values : values_of l.heap l.values.items ≡ values_of l.initial.heap l.initial.values.items ++ map literal (take l.literal-index l.literals);
+  of_heap : All (IsOf l.heap) l.values.items;
+  same : heap_of l.heap ≡ heap_of l.initial.heap;
+  keeps : Keeps l.initial.heap l.heap;
+}

@@ -1,0 +1,27 @@
+use Rattle.std.proofs.Common.{rules, ◌≡◌, ◌-◌, length, drop, take, List, ◌++◌, [], ◌∷◌, sym, ap, ◌∙◌, subst}
+use Rattle.std.specs.Prelude.{All}
+use Rattle.std.proofs.lemmas.List.Elements.{All-drop}
+use Rattle.dart_values.specs.declared.value.Value.{Value}
+use Rattle.dart_values.specs.Values.{list}
+use Rattle.dart_values.specs.Store.{IsOf, values_of, heap_of}
+use Rattle.isolate_state.proofs.Grown.{tail_is}
+use Rattle.isolate_state.proofs.Makes.{lists}
+use Rattle.isolate_state.proofs.making.make_list.Goals as goal
+
+pub list-requires : goal.list-requires
+list-requires c =
+    let all : List Value = c.args.isolate.now.values.items in
+    let end = tail_is c.deref.result.now all c.in_ok-items.items.items (c.len.result - c.args.n) c.in_ok-items.ensures.items c.deref.ensures.value in
+    subst (All (IsOf c.args.isolate.now.heap)) (sym end) (All-drop (IsOf c.args.isolate.now.heap) (c.len.result - c.args.n) all c.requires.held)
+
+pub returns : goal.returns
+returns c =
+    let all : List Value = c.args.isolate.now.values.items in
+    let k = c.len.result - c.args.n in
+    let end = tail_is c.deref.result.now all c.in_ok-items.items.items k c.in_ok-items.ensures.items c.deref.ensures.value in
+    let size : c.len.result ≡ length all = search rules in
+    lists c.args.n k c.args.isolate.now (record c.args.isolate.now { heap = c.list.new.self; values = c.push.new.self }) c.in_ok-v.v (ap (λ n. n - c.args.n) size) c.requires.operands
+    c.in_ok-v.ensures.keeps c.in_ok-v.ensures.value
+    (c.in_ok-v.ensures.heap ∙ ap (λ items. heap_of c.args.isolate.now.heap ++ list (values_of c.args.isolate.now.heap items) ∷ []) end)
+    c.in_ok-v.ensures.of_heap
+    (c.in_ok-push.ensures.items ∙ ap (λ vs. vs ++ c.in_ok-v.v ∷ []) c.truncate.ensures.items)
