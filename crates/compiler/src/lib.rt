@@ -13,6 +13,7 @@ mod units;
 use body_writer::small;
 use code_pool::CodePool;
 use code_writer::{Emitter, Layout};
+use ds_base::NoMemory;
 use program::{Class, Numbered, SelectorId, Site, UnitId};
 use std::alloc::{AllocError, Global};
 
@@ -48,7 +49,7 @@ fn users_of(classes: &[Class]) -> &[Class]
 }
 
 /// The code of a program.
-pub fn compile(alloc: Global, program: &Numbered) -> Result<CodePool, AllocError>
+pub fn compile(alloc: Global, program: &Numbered) -> Result<CodePool, NoMemory>
     ensures { IfOk result (HasCode (parts_of program.now)) }
 {
     let sites = program.sites.as_slice();
