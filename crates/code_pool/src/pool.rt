@@ -87,6 +87,13 @@ impl CodePool {
         &self.constants[k as usize]
     }
 
+    /// All that `Const` may push.
+    pub fn constants(&self) -> &[Constant]
+        ensures { result.now ≡ self.now.constants }
+    {
+        self.constants.as_slice()
+    }
+
     /// The unit of a function or constructor.
     pub fn static_target(&self, k: u32) -> UnitId
         requires { k < length self.now.statics }

@@ -1,1 +1,9 @@
 pub mod Tests
+pub mod Forgets
+pub mod Sends
+pub mod Invokes
+pub mod Loops
+pub mod Acts
+pub mod Equals
+pub mod Begins
+pub mod Ends

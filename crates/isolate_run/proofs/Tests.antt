@@ -1,9 +1,9 @@
 -- What a test by `is` does.
-use Rattle.std.proofs.Common.{◌≡◌, ℕ, zero, suc, ◌+◌, ◌<◌, true, false, Bool, nat_lt, nat_eq, List, [], ◌∷◌, ◌++◌, length, map, slice_get, slice_index_or, refl, sym, ◌∙◌, ap, subst, arith}
+use Rattle.std.proofs.Common.{◌≡◌, ℕ, zero, suc, ◌<◌, true, Bool, nat_lt, nat_eq, List, [], ◌∷◌, ◌++◌, length, slice_get, refl, sym, ◌∙◌, ap, subst, arith}
 use Rattle.std.specs.Prelude.{All, IsTrue, Option, Some, None}
 use Rattle.std.proofs.lemmas.List.{append-nil, length-map}
 use Rattle.std.proofs.lemmas.List.Elements.{All-push}
-use Rattle.std.proofs.lemmas.Option.{slice_get_within, slice_get_read}
+use Rattle.std.proofs.lemmas.Option.{slice_get_within}
 use Rattle.program.specs.declared.ids.ClassId.{ClassId}
 use Rattle.program.specs.declared.numbered.Class.{Class}
 use Rattle.program.specs.Hierarchy.{is_subtype}
@@ -12,7 +12,7 @@ use Rattle.dart_values.specs.declared.value.Value.{Value}
 use Rattle.dart_values.specs.declared.value.Value.TheVariants as v
 use Rattle.dart_values.specs.Values as shown
 use Rattle.dart_values.specs.Values.{classes, class_of, thing_class, class_of_thing}
-use Rattle.dart_values.specs.Store.{Store, IsOf, value_of, values_of, heap_of, thing_in}
+use Rattle.dart_values.specs.Store.{IsOf, value_of, values_of, heap_of, thing_in}
 use Rattle.dart_meaning.specs.Calls as calls
 use Rattle.dart_meaning.specs.Numbered.{of_numbered}
 use Rattle.code_unit.specs.declared.instr.Instr.TheVariants.{IsClass}

@@ -32,6 +32,7 @@ pub trait Subtypes {
 }
 
 /// The class table answers; nothing is remembered.
+#[derive(Drop)]
 pub struct PlainSubtypes;
 
 impl Subtypes for PlainSubtypes {

@@ -1,4 +1,4 @@
-use Rattle.std.proofs.Common.{◌≡◌, ◌<◌, ℕ, length, refl, sym, subst}
+use Rattle.std.proofs.Common.{◌<◌, ℕ, length, refl, sym, subst}
 use Rattle.program.specs.Program.{parts_of}
 use Rattle.dart_values.specs.Store.{IsOf}
 use Rattle.isolate_state.proofs.Moves.{below_is}
