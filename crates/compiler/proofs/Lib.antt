@@ -1,3 +1,5 @@
 mod BodiesOfUnits
 mod Growing
+mod Named
+mod NoOthers
 mod Pools

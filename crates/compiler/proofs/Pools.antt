@@ -31,7 +31,7 @@ get_in_front [] ys i h = absurd (omega (arith, h))
 get_in_front (x ∷ xs) ys zero h = refl
 get_in_front (x ∷ xs) ys (suc i) h = get_in_front xs ys i (omega (arith, h))
 
-get_behind : {A : Type 0} (xs ys : List A) (i : ℕ) → slice_get (xs ++ ys) (length xs + i) ≡ slice_get ys i
+pub get_behind : {A : Type 0} (xs ys : List A) (i : ℕ) → slice_get (xs ++ ys) (length xs + i) ≡ slice_get ys i
 get_behind [] ys i = let e : 0 + i ≡ i = omega arith in ap (slice_get ys) e
 get_behind (x ∷ xs) ys i = let e : suc (length xs) + i ≡ suc (length xs + i) = omega arith in ap (slice_get (x ∷ (xs ++ ys))) e ∙ get_behind xs ys i
 

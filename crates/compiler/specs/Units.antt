@@ -1,5 +1,5 @@
 -- Units that are the code of their bodies, whatever constants come after them.
-use Rattle.std.specs.Prelude.{◌≡◌, ℕ, ◌+◌, ◌<◌, Bool, true, false, nat_eq, List, [], ◌∷◌, ◌++◌, length, slice_get, Option, Some, None, max, pos, codes, ◌-◌, map}
+use Rattle.std.specs.Prelude.{◌≡◌, ℕ, ◌+◌, ◌<◌, ◌≤◌, Bool, true, false, nat_eq, List, [], ◌∷◌, ◌++◌, length, slice_get, Option, Some, None, max, pos, codes, ◌-◌, map}
 use Rattle.program.specs.declared.ids.UnitId.{UnitId}
 use Rattle.program.specs.declared.literal.Literal.{Literal}
 use Rattle.program.specs.declared.literal.Literal.TheVariants as literals
@@ -20,7 +20,7 @@ use Rattle.code_unit.specs.declared.unit.Unit as declared_unit
 use Rattle.code_pool.specs.declared.pool.MethodBody as pool_body
 use Rattle.code_pool.specs.declared.pool.MethodBody.TheVariants as pooled
 use Rattle.program_code.specs.Depths.{depths_from, list_text_depths}
-use Rattle.program_code.specs.IsCode.{BodyCode, ConstructorCode, ListCode, passes_of, body_of, sets_of, required_of, defaults_of}
+use Rattle.program_code.specs.IsCode.{BodyCode, ConstructorCode, ListCode, passes_of, body_of, sets_of, required_of, defaults_of, unit_id}
 use Rattle.code_writer.specs.declared.layout.Layout.{Layout}
 use Rattle.code_writer.specs.Constants.{number_in}
 use Rattle.code_writer.specs.Laws.{IsLayout, IsKnown}
@@ -128,3 +128,17 @@ pub record HasParts (o : Option Constructor) (parts : ConstructorParts) : Type 0
   pub sets : sets_of o ≡ parts.sets.now
   pub passes : passes_of o ≡ exps (map exp parts.passes.now)
   pub body : body_of o ≡ stas_of parts.body.now
+
+-- ---- units that were added
+
+-- what a member with the code of a unit has
+abbrev pub code_of : ℕ → pool_body.MethodBody
+code_of u = pooled.Code (unit_id u)
+
+-- A unit that was added is the one that the answer names: `says` gives the answer that names a unit.
+pub record IsNamed {A : Type 0} (says : ℕ → A) (old new : List declared_unit.Unit) (answer : A) : Type 0 where
+  pub each : (u : ℕ) → length old ≤ u → u < length new → answer ≡ says u
+
+-- each unit that was added is named by one of the answers
+pub record AreNamed {A : Type 0} (says : ℕ → A) (old new : List declared_unit.Unit) (answers : List A) : Type 0 where
+  pub each : (u : ℕ) → length old ≤ u → u < length new → (g : ℕ) × (slice_get answers g ≡ Some (says u))

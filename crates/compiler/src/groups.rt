@@ -2,7 +2,8 @@
 ghost use Rattle.std.specs.Prelude.{◌≡◌, ◌++◌, ◌∷◌, [], OnOk, IfOk, length, nat_eq, true, false};
 ghost use Rattle.dart_meaning.specs.Calls.{list_to_string};
 ghost use Rattle.code_pool.specs.declared.pool.MethodBody.TheVariants as pooled;
-ghost use Rattle.compiler.specs.Units.{Grows, HasItem, Built, FunctionHas, ClassHas, MethodHas, BeginsWith, IsBodyUnit};
+ghost use Rattle.program_code.specs.IsCode.{unit_id};
+ghost use Rattle.compiler.specs.Units.{Grows, HasItem, Built, FunctionHas, ClassHas, MethodHas, BeginsWith, IsBodyUnit, IsNamed, AreNamed, code_of};
 
 use crate::units::{body_unit, constructor_unit};
 use body_writer::small;
@@ -32,6 +33,7 @@ fn function<'a>(
 ) -> Result<UnitId, AllocError>
     ensures has { IfOk result (FunctionHas base units.new.items out.new.table k.now) }
     ensures grows { OnOk result (Grows units.old.items out.old.table units.new.items out.new.table) }
+    ensures named { IfOk result (IsNamed unit_id units.old.items units.new.items) }
 {
     let unit = body_unit(
         alloc,
@@ -56,6 +58,7 @@ pub fn functions<'a>(
 ) -> Result<Vec<UnitId>, AllocError>
     ensures built { IfOk result (λ ids. Built (FunctionHas base units.new.items out.new.table) all.now (length all.now) ids.items) }
     ensures grows { OnOk result (Grows units.old.items out.old.table units.new.items out.new.table) }
+    ensures named { IfOk result (λ ids. AreNamed unit_id units.old.items units.new.items ids.items) }
 {
     let mut ids = Vec::new(alloc);
     for k in all {
@@ -74,6 +77,7 @@ fn class<'a>(
 ) -> Result<UnitId, AllocError>
     ensures has { IfOk result (ClassHas base units.new.items out.new.table k.now) }
     ensures grows { OnOk result (Grows units.old.items out.old.table units.new.items out.new.table) }
+    ensures named { IfOk result (IsNamed unit_id units.old.items units.new.items) }
 {
     let unit = constructor_unit(alloc, out, base, k)?;
     let id = add(units, unit)?;
@@ -90,6 +94,7 @@ pub fn classes<'a>(
 ) -> Result<Vec<UnitId>, AllocError>
     ensures built { IfOk result (λ ids. Built (ClassHas base units.new.items out.new.table) all.now (length all.now) ids.items) }
     ensures grows { OnOk result (Grows units.old.items out.old.table units.new.items out.new.table) }
+    ensures named { IfOk result (λ ids. AreNamed unit_id units.old.items units.new.items ids.items) }
 {
     let mut ids = Vec::new(alloc);
     for k in all {
@@ -121,6 +126,7 @@ fn method<'a>(
 ) -> Result<MethodBody, AllocError>
     ensures has { IfOk result (MethodHas base units.new.items out.new.table text k.now) }
     ensures grows { OnOk result (Grows units.old.items out.old.table units.new.items out.new.table) }
+    ensures named { IfOk result (IsNamed code_of units.old.items units.new.items) }
 {
     match &k.body {
         program::MethodBody::Native(n) => Ok(native(text, *n)),
@@ -153,6 +159,7 @@ pub fn methods<'a>(
 ) -> Result<Vec<MethodBody>, AllocError>
     ensures built { IfOk result (λ bodies. Built (MethodHas base units.new.items out.new.table text) all.now (length all.now) bodies.items) }
     ensures grows { OnOk result (Grows units.old.items out.old.table units.new.items out.new.table) }
+    ensures named { IfOk result (λ bodies. AreNamed code_of units.old.items units.new.items bodies.items) }
 {
     let mut bodies = Vec::new(alloc);
     for k in all {

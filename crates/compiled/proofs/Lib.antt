@@ -1,0 +1,2 @@
+mod EntryPoints
+pub mod Whole
