@@ -1,0 +1,6 @@
+pub mod Ends
+mod Nexts
+mod Named
+mod Lasts
+mod Examples
+pub mod Cells

@@ -1,0 +1,12 @@
+use Rattle.std.proofs.Common.{◌≡◌, ◌++◌, drop}
+use Rattle.std.specs.List.{flat_map, enumerate_from}
+use Rattle.program.specs.Program.{parts_of}
+use Rattle.site_report.specs.Lines.{site_line}
+use Rattle.site_report.specs.Ended.{sum_of}
+use Rattle.site_report.proofs.runs.push_sites.Given as goal
+
+abbrev pub invariant-loop-number : goal.invariant-loop-number
+invariant-loop-number g l =
+    let line = site_line (parts_of l.linked.program) (sum_of l.ended) (g.S.SiteStates.state_at l.states) (g.S.SiteStates.row_at l.states) in
+    l.out.items ++ flat_map line (enumerate_from l.number (drop l.number l.linked.program.sites))
+    ≡ l.initial.out.items ++ flat_map line (enumerate_from 0 l.linked.program.sites)

@@ -1,0 +1,50 @@
+// Places of a text, as they are shown.
+ghost use Rattle.std.specs.Prelude.{◌≡◌, ◌≤◌, ◌++◌, length, OnOk, take_while, reverse, ◌==◌, not};
+ghost use Rattle.dart_syntax.specs.Places.{line_at, column_at};
+ghost use Rattle.site_report.specs.Places.{place_text};
+
+use crate::text::{push, push_number};
+use ds_base::NoMemory;
+use std::alloc::Global;
+
+/// The line of a byte place, from 1.
+pub fn line_at(source: &[u8], place: usize) -> u64
+    requires { length source.now ≤ 1048576 }
+    ensures exact { result ≡ line_at source.now place }
+    ensures within { result ≤ 1048577 }
+{
+    let front = &source[..place.min(source.len())];
+    1 + front.iter().filter(|b| **b == b'\n').count() as u64
+}
+
+/// The column of a byte place, from 1.
+pub fn column_at(source: &[u8], place: usize) -> u64
+    requires { length source.now ≤ 1048576 }
+    ensures exact { result ≡ column_at source.now place }
+    ensures within { result ≤ 1048577 }
+{
+    let front = &source[..place.min(source.len())];
+    1 + back_to_line_feed(front) as u64
+}
+
+fn back_to_line_feed(front: &[u8]) -> usize
+    ensures exact { result ≡ length (take_while (λ b. not (b == 10)) (reverse front.now)) }
+    ensures within { result ≤ length front.now }
+{
+    front.iter().rev().take_while(|b| **b != b'\n').count()
+}
+
+/// LINE:COL of a byte place.
+pub fn push_place(
+    alloc: Global,
+    out: &mut Vec<u8>,
+    source: &[u8],
+    place: usize,
+) -> Result<(), NoMemory>
+    requires { length source.now ≤ 1048576 }
+    ensures { OnOk result (out.new.items ≡ out.old.items ++ place_text source.now place) }
+{
+    push_number(alloc, out, line_at(source, place))?;
+    push(out, b":")?;
+    push_number(alloc, out, column_at(source, place))
+}
