@@ -1,18 +1,16 @@
 -- What was told of the bytes that were read, said of the bytes that the source held.
-use Rattle.std.proofs.Common.{◌≡◌, ℕ, List, Bool, refl, sym, subst, ◌∙◌, Option, Some, None}
+use Rattle.std.proofs.Common.{◌≡◌, ℕ, List, Bool, ap, sym, subst, ◌∙◌, Option, Some, None}
 use Rattle.std.specs.Io.KnownBytes.{Appends}
-use Rattle.first_form.specs.Form.{form_of}
-use Rattle.dart_sites.specs.declared.words.Request.{Request}
 use Rattle.dart_sites.specs.Outside.{ReadAll}
 use Rattle.dart_sites.specs.Source.{IsSource}
-use Rattle.dart_sites.specs.declared.words.Request.TheVariants.{Check, Run}
 use Rattle.dart_syntax.specs.Syntax.{Tree}
 use Rattle.static_rules.specs.Accepted as rules
 use Rattle.static_rules.specs.Accepted.{failing, exceeded, counts}
 use Rattle.dart_sites.specs.Refusals.{missing}
-use Rattle.dart_sites.specs.Top.{Says, Defines, WholeWritten, PartWritten, CutShort, NoSource, NamesRefused, WrongNames, breaks, no_entry, unbuilt, OverLimit, LineWritten, SourceRefused, RequestRefused, HasForm, entries, is_run, IsAccepted}
-use Rattle.dart_sites.specs.Words.{Asks}
-use Rattle.dart_sites.proofs.FourWords.{check_is_no_run}
+use Rattle.dart_sites.specs.Texts.{Says}
+use Rattle.dart_sites.specs.Top.{Defines, WholeWritten, PartWritten, CutShort, NoSource, NamesRefused, WrongNames, breaks, no_entry, OverLimit, LineWritten, SourceRefused, RequestRefused, entries, IsAccepted}
+use Rattle.dart_sites.specs.Words.{Request, Asks}
+use Rattle.dart_sites.proofs.Requests.{one_request}
 
 defines : (words : List (List ℕ)) (old left : Option (List ℕ)) (bytes given text : List ℕ) (request : Request) (all_done : Bool) →
     Asks words request → ReadAll old left bytes → given ≡ bytes → Says request given text all_done → Defines words old left text all_done
@@ -47,25 +45,13 @@ no_source_not_accepted words None left bytes given line all same none accepted =
 no_source_not_accepted words (Some input) left bytes given line all same none accepted =
     none.no_tree accepted.tree (subst (λ b. IsSource b accepted.tree) (all.all.0 ∙ sym same) accepted.source.0)
 
--- A request that words ask for is the only one.
-one_request : (words : List (List ℕ)) (r s : Request) → Asks words r → Asks words s → is_run r ≡ is_run s
-one_request words Check Check p q = refl
-one_request words Check (Run n) p q = absurd (check_is_no_run words n p q)
-one_request words (Run n) Check p q = absurd (check_is_no_run words n q p)
-one_request words (Run n) (Run m) p q = refl
-
 -- An accepted tree has no wrong names.
-names_fit : (r s : Request) (tree : Tree) (input line : List ℕ) → is_run r ≡ is_run s → rules.IsAccepted tree → missing tree (entries s) ≡ None → HasForm s tree → WrongNames r tree input line → ⊥
-names_fit r s tree input line same accepted there form (breaks broken is) =
+names_fit : (r s : Request) (tree : Tree) (input line : List ℕ) → r ≡ s → rules.IsAccepted tree → missing tree (entries s) ≡ None → WrongNames r tree input line → ⊥
+names_fit r s tree input line same accepted there (breaks broken is) =
     let none : failing tree ≡ None = accepted.rules in
     cc
-names_fit Check s tree input line same accepted there form (no_entry also gone is) = cc
-names_fit (Run n) Check tree input line same accepted there form (no_entry also gone is) = cc
-names_fit (Run n) (Run m) tree input line same accepted there form (no_entry also gone is) = cc
-names_fit Check s tree input line same accepted there form (unbuilt also gone run none is) = cc
-names_fit (Run n) Check tree input line same accepted there form (unbuilt also gone run none is) = cc
-names_fit (Run n) (Run m) tree input line same accepted there form (unbuilt also gone run none is) =
-    let some : form_of tree ≡ Some form.0 = form.1 in
+names_fit r s tree input line same accepted there (no_entry also gone is) =
+    let none : missing tree (entries r) ≡ None = ap (λ q. missing tree (entries q)) same ∙ there in
     cc
 
 pub names_not_accepted : (words : List (List ℕ)) (old left : Option (List ℕ)) (bytes given line : List ℕ) (request : Request) → Asks words request → ReadAll old left bytes → given ≡ bytes →
@@ -73,7 +59,7 @@ pub names_not_accepted : (words : List (List ℕ)) (old left : Option (List ℕ)
 names_not_accepted words None left bytes given line request asks all same refused accepted = accepted.source
 names_not_accepted words (Some input) left bytes given line request asks all same refused accepted =
     let tree : refused.tree ≡ accepted.tree = refused.tree_of.only accepted.tree (subst (λ b. IsSource b accepted.tree) (all.all.0 ∙ sym same) accepted.source.0) in
-    names_fit request accepted.request accepted.tree given line (one_request words request accepted.request asks accepted.asks) accepted.accepted accepted.entries accepted.form
+    names_fit request accepted.request accepted.tree given line (one_request words request accepted.request asks accepted.asks) accepted.accepted accepted.entries
     (subst (λ t. WrongNames request t given line) tree refused.wrong)
 
 pub limit_not_accepted : (words : List (List ℕ)) (old left : Option (List ℕ)) (bytes given line : List ℕ) → ReadAll old left bytes → given ≡ bytes → OverLimit given line → IsAccepted words old → ⊥

@@ -1,13 +1,11 @@
--- What a tree is refused for: the rule that an error names is the one that the tree breaks first, and a missing entry is the first.
-use Rattle.std.proofs.Common.{◌≡◌, ℕ, true, false, List, [], ◌∷◌, Option, Some, None, is_some, option_map, refl, ◌∙◌}
-use Rattle.dart_sites.specs.Refusals.{missing}
+-- What a tree is refused for: the rule that an error names is the one that the tree breaks first.
+use Rattle.std.proofs.Common.{◌≡◌, Some, ◌∙◌}
 use Rattle.dart_syntax.specs.declared.token.Span.{Span}
 use Rattle.dart_syntax.specs.Syntax.{Tree}
 use Rattle.static_rules.specs.declared.rule.Rule.{Rule}
 use Rattle.static_rules.specs.Accepted.{failing}
 use Rattle.resolver.specs.declared.error.NameError.{NameError}
 use Rattle.resolver.specs.declared.error.NameError.TheVariants as error
-use Rattle.dart_meaning.specs.Entry.{has_entry}
 use Rattle.resolver.specs.Refusals.{IsRefusal, broken}
 
 pub breaks_it : (tree : Tree) (e : NameError) (x : Rule × Span) → IsRefusal tree e → broken e ≡ Some x → failing tree ≡ Some x
@@ -26,13 +24,3 @@ breaks_it tree (error.Shadowed span) x is at = is ∙ at
 breaks_it tree (error.WrongArgumentsOfStatic span) x is at = is ∙ at
 breaks_it tree (error.LimitReached what count) x is at = absurd cc
 breaks_it tree error.NoMemory x is at = absurd cc
-
-pub is_missing : (tree : Tree) (name : List ℕ) → has_entry tree name ≡ false → missing tree (name ∷ []) ≡ Some name
-is_missing tree name none = rw none refl
-
-pub none_missing : (tree : Tree) (name : List ℕ) → has_entry tree name ≡ true → missing tree (name ∷ []) ≡ None
-none_missing tree name there = rw there refl
-
-pub some_mapped : {A B : Type 0} (f : A → B) (o : Option A) → is_some o ≡ is_some (option_map f o)
-some_mapped f None = refl
-some_mapped f (Some a) = refl

@@ -1,52 +1,22 @@
 -- What each status of the program says.
-use Rattle.std.specs.Prelude.{◌≡◌, ℕ, ◌≤◌, ◌<◌, Bool, true, false, List, [], ◌∷◌, length, take, Option, MatchOption, IsSomeAnd, codes, Some, None}
+use Rattle.std.specs.Prelude.{◌≡◌, ℕ, ◌≤◌, ◌<◌, Bool, List, [], length, take, Option, MatchOption, IsSomeAnd, codes, Some, None}
 use Rattle.std.specs.Io.KnownBytes.{Appends}
 use Rattle.dart_syntax.specs.Syntax.{Tree}
-use Rattle.first_form.specs.declared.form.Form.{Form}
-use Rattle.first_form.specs.Form.{form_of}
 use Rattle.dart_syntax.specs.declared.token.Span.{Span}
 use Rattle.static_rules.specs.declared.rule.Rule.{Rule}
 use Rattle.static_rules.specs.declared.rule.Limit.{Limit}
 use Rattle.static_rules.specs.Accepted as rules
 use Rattle.static_rules.specs.Accepted.{failing, exceeded, counts}
-use Rattle.first_run.specs.Entry.{entry_meaning, is_done}
-use Rattle.first_run.specs.Report.{text_of_run}
-use Rattle.dart_sites.specs.Refusals.{rule_line, limit_line, missing, entry_line, check_text}
+use Rattle.dart_sites.specs.Refusals.{rule_line, limit_line, missing, entry_line}
 use Rattle.dart_sites.specs.declared.source.Refusal.{Refusal}
 use Rattle.dart_sites.specs.Source.{IsSource, IsTreeOf, NoTree, IsRefused, refusal_line}
 use Rattle.dart_sites.specs.Outside.{HasWritten, ReadAll}
-use Rattle.dart_sites.specs.Words.{Asks}
-use Rattle.dart_sites.specs.declared.words.Request.{Request}
-use Rattle.dart_sites.specs.declared.words.Request.TheVariants.{Check, Run}
+use Rattle.dart_sites.specs.Words.{Request, check, listing, run, Asks}
+use Rattle.dart_sites.specs.Texts.{Says}
 use Rattle.dart_sites.specs.declared.telling.Outcome.{Outcome}
 use Rattle.dart_sites.specs.declared.telling.Outcome.TheVariants as outcome
 use Rattle.dart_sites.specs.declared.status.Status.{Status}
 use Rattle.dart_sites.specs.declared.status.Status.TheVariants as status
-
--- ---- what a request says of the bytes that were read
-
--- the text of `check` of a source: what it counts
-pub record CheckSays (input text : List ℕ) (all_done : Bool) : Type 0 where
-  pub tree : Tree
-  pub source : IsSource input tree
-  pub accepted : rules.IsAccepted tree
-  pub text_is : text ≡ check_text (counts tree)
-  pub done_is : all_done ≡ true
-
--- the text of `run` of a source that is a program of the first form, and whether its entry was done
-pub record RunSays (turns : ℕ) (input text : List ℕ) (all_done : Bool) : Type 0 where
-  pub tree : Tree
-  pub source : IsSource input tree
-  pub accepted : rules.IsAccepted tree
-  pub form : Form
-  pub form_is : form_of tree ≡ Some form
-  pub text_is : text ≡ text_of_run input form turns
-  pub done_is : all_done ≡ is_done (entry_meaning form turns).ending
-
--- the text that a request defines for the bytes, and whether each of its entries was done
-abbrev pub Says : Request → List ℕ → List ℕ → Bool → Type 0
-Says Check input text all_done = CheckSays input text all_done
-Says (Run turns) input text all_done = RunSays turns input text all_done
 
 -- ---- why the bytes are refused, with this line
 
@@ -59,18 +29,14 @@ pub record NoSource (input line : List ℕ) : Type 0 where
 
 -- the entries that a request names
 abbrev pub entries : Request → List (List ℕ)
-entries Check = []
-entries (Run turns) = codes "main" ∷ []
+entries check = []
+entries listing = []
+entries (run turns names) = names
 
-abbrev pub is_run : Request → Bool
-is_run Check = false
-is_run (Run turns) = true
-
--- The tree breaks a rule; or it is accepted, and an entry that is named is none; or they all are, and the tree has a form that is not run yet.
+-- The tree breaks a rule; or it is accepted, and an entry that is named, the first such, is none.
 pub data WrongNames (request : Request) (tree : Tree) (input line : List ℕ) : Type 0 where
   breaks : {rule : Rule} {at : Span} → failing tree ≡ Some (rule, at) → line ≡ rule_line input rule at → WrongNames request tree input line
   no_entry : {name : List ℕ} → rules.IsAccepted tree → missing tree (entries request) ≡ Some name → line ≡ entry_line name → WrongNames request tree input line
-  unbuilt : rules.IsAccepted tree → missing tree (entries request) ≡ None → is_run request ≡ true → form_of tree ≡ None → line ≡ codes "refused: unbuilt\n" → WrongNames request tree input line
 
 -- they are a source, whose names are refused
 pub record NamesRefused (request : Request) (input line : List ℕ) : Type 0 where
@@ -163,11 +129,6 @@ pub record RequestRefused (words : List (List ℕ)) (old left held holds : Optio
 
 -- ---- completeness
 
--- `check` asks no form, and `run` one that is built
-abbrev pub HasForm : Request → Tree → Type 0
-HasForm Check tree = Unit {0}
-HasForm (Run turns) tree = (form : Form) × (form_of tree ≡ Some form)
-
 -- the words are a request, and the source tells bytes that are accepted, with the entries that are named
 pub record IsAccepted (words : List (List ℕ)) (old : Option (List ℕ)) : Type 0 where
   pub request : Request
@@ -175,7 +136,6 @@ pub record IsAccepted (words : List (List ℕ)) (old : Option (List ℕ)) : Type
   pub tree : Tree
   pub accepted : rules.IsAccepted tree
   pub entries : missing tree (entries request) ≡ None
-  pub form : HasForm request tree
   pub source : IsSomeAnd old (λ input. IsSource input tree × length input ≤ 1048576)
 
 -- the answers to what is accepted, where no read and no write fails

@@ -1,8 +1,10 @@
 //! `dart_sites`: runs programs in a profile of Dart, and reports the call sites of each run.
 #![tactic(auto)]
 
+mod entries;
 mod reading;
 mod refusals;
+mod running;
 mod source;
 mod status;
 mod telling;

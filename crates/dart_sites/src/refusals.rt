@@ -1,14 +1,11 @@
-// The lines of what a tree is refused for, and the line of `check`.
-ghost use Rattle.std.specs.Prelude.{◌≡◌, ◌≤◌, length, IfOk, codes};
+// The lines of what a tree is refused for.
+ghost use Rattle.std.specs.Prelude.{◌≡◌, ◌≤◌, length, IfOk};
 ghost use Rattle.static_rules.specs.Accepted.{most};
-ghost use Rattle.program.specs.Program.{parts_of};
-ghost use Rattle.resolver.specs.Counted.{counts_of_parts};
-ghost use Rattle.dart_sites.specs.Refusals.{rule_name, rule_line, limit_name, limit_line, entry_line, check_text};
+ghost use Rattle.dart_sites.specs.Refusals.{rule_name, rule_line, limit_name, limit_line, entry_line};
 
 use ds_base::NoMemory;
-use first_run::{push, push_number, push_place};
-use program::Numbered;
 use resolver::{Broken, Limit, Rule};
+use site_report::{push, push_number, push_place};
 use std::alloc::Global;
 
 fn rule_name(rule: Rule) -> &'static str
@@ -92,30 +89,4 @@ pub fn entry_line(alloc: Global, name: &[u8]) -> Result<Vec<u8>, NoMemory>
     push(&mut line, name)?;
     push(&mut line, b"\n")?;
     Ok(line)
-}
-
-/// The line of a form that is not run yet.
-pub fn unbuilt_line(alloc: Global) -> Result<Vec<u8>, NoMemory>
-    ensures { IfOk result (λ line. line.items ≡ codes "refused: unbuilt\n") }
-{
-    let mut line = Vec::new(alloc);
-    push(&mut line, b"refused: unbuilt\n")?;
-    Ok(line)
-}
-
-/// The text of `check`.
-pub fn check_text(alloc: Global, program: &Numbered) -> Result<Vec<u8>, NoMemory>
-    ensures { IfOk result (λ text. text.items ≡ check_text (counts_of_parts (parts_of program.now))) }
-{
-    let mut text = Vec::new(alloc);
-    push(&mut text, b"ok classes ")?;
-    push_number(alloc, &mut text, program.classes.len() as u64)?;
-    push(&mut text, b" methods ")?;
-    push_number(alloc, &mut text, program.methods.len() as u64)?;
-    push(&mut text, b" selectors ")?;
-    push_number(alloc, &mut text, program.selectors.len() as u64)?;
-    push(&mut text, b" sites ")?;
-    push_number(alloc, &mut text, program.sites.len() as u64)?;
-    push(&mut text, b"\n")?;
-    Ok(text)
 }

@@ -8,7 +8,7 @@ use dart_lexer::{LexError, tokens};
 use dart_parser::{ParseError, parse};
 use dart_syntax::{Token, Tree};
 use ds_base::NoMemory;
-use first_run::{push, push_place};
+use site_report::{push, push_place};
 use std::alloc::Global;
 
 /// Why bytes are no source.

@@ -17,7 +17,7 @@ pub enum Status {
     TooLarge,
     /// The bytes are no source of the language.
     SyntaxRefused,
-    /// The source breaks a static rule, has no entry point of the name, or has a form that is not run yet.
+    /// The source breaks a static rule, or has no entry point of a name.
     NameRefused,
     /// A count of the source is over its limit.
     LimitRefused,

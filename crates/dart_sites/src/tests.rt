@@ -15,6 +15,16 @@ const FIRST_TEXT: &str =
 const TWO_TURNS_TEXT: &str =
     "entry 0 main\nend out of turns\nsites 3\n0 m/0 2:20 calls 1 mono A -> A.m\n1 toString/0 print calls 0 unlinked\n2 toString/0 list calls 0 unlinked\n";
 
+const LIST_TEXT: &str =
+    "class 0 Object parent - last 7\nclass 1 Null parent 0 last 1\nclass 2 bool parent 0 last 2\nclass 3 int parent 0 last 3\nclass 4 String parent 0 last 4\nclass 5 List parent 0 last 5\nclass 6 Invocation parent 0 last 6\nclass 7 A parent 0 last 7\nsite 0 m/0 2:20\nsite 1 toString/0 print\nsite 2 toString/0 list\n";
+
+/// Two entries over the same cells: the first calls a site on one class, the second on another.
+const TWO: &str =
+    "class A { m() => 1; }\nclass B { m() => 2; }\nf(o) => print(o.m());\nmain() { f(A()); }\n@pragma('vm:entry-point')\nother() { f(B()); throw 'x'; }\n";
+
+const TWO_TEXT: &str =
+    "entry 0 main\n1\nend done\nentry 1 other\n2\nend threw Thrown x\nentry 2 main\n1\nend done\nsites 3\n0 m/0 3:17 calls 3 cached A -> A.m, B -> B.m\n1 toString/0 print calls 3 mono int -> int.toString\n2 toString/0 list calls 0 unlinked\n";
+
 fn words_of<R: AllocGlobal>(rt: &R, line: &str) -> Result<Vec<String>, Fail> {
     let alloc = rt.alloc();
     let mut words = Vec::new(alloc);
@@ -86,6 +96,14 @@ fn runs_the_first_program_and_tells_faults(rt: HostRuntime) -> Result<(), Fail> 
 }
 
 #[test]
+fn runs_entries_one_after_the_other(rt: HostRuntime) -> Result<(), Fail> {
+    let two = TWO.as_bytes();
+    let run = "run 100 1 main other main";
+    let text = TWO_TEXT.as_bytes();
+    expect(&rt, run, two, &[], &[], Status::EntryFault, text)
+}
+
+#[test]
 fn refuses_words_and_reads_nothing(rt: HostRuntime) -> Result<(), Fail> {
     let first = FIRST.as_bytes();
     for line in [
@@ -97,9 +115,9 @@ fn refuses_words_and_reads_nothing(rt: HostRuntime) -> Result<(), Fail> {
         "run 1000000001 1 main",
         "run 18446744073709551616 1 main",
         "run 1 17 main",
-        "run 1 1 main main",
-        "run 1 1 other",
+        "run 1 2 main",
         "check check",
+        "list main",
         "--help",
     ] {
         expect(
@@ -113,8 +131,9 @@ fn refuses_words_and_reads_nothing(rt: HostRuntime) -> Result<(), Fail> {
         )?;
         assert_eq!(&rt; workers_of(words_of(&rt, line)?.as_slice()), None);
     }
-    let words = words_of(&rt, "run 1 1 main")?;
-    assert_eq!(&rt; workers_of(words.as_slice()), Some(1));
+    for line in ["run 1 1 main", "run 1 1 main other main", "check", "list"] {
+        assert_eq!(&rt; workers_of(words_of(&rt, line)?.as_slice()), Some(1));
+    }
     Ok(())
 }
 
@@ -149,56 +168,28 @@ fn refuses_what_is_no_source(rt: HostRuntime) -> Result<(), Fail> {
 }
 
 #[test]
-fn refuses_names_and_other_forms(rt: HostRuntime) -> Result<(), Fail> {
+fn refuses_names(rt: HostRuntime) -> Result<(), Fail> {
     for (text, held) in [
         ("", "refused: no entry point main\n"),
-        ("main() {}", "refused: unbuilt\n"),
         (
             "class A { m() => 7; } main() { print(B().m()); }",
             "refused: UndefinedName at 1:38\n",
-        ),
-        (
-            "class A { m() => 7; } main() { print(A().n()); }",
-            "refused: unbuilt\n",
         ),
         (
             "class A { m() => 7; m() => 8; } main() { print(A().m()); }",
             "refused: DuplicateName at 1:21\n",
         ),
         (
-            "class A { void A() => 7; } main() { print(A().A()); }",
-            "refused: DuplicateName at 1:16\n",
-        ),
-        (
             "class A { length() => 7; } main() { print(A().length()); }",
             "refused: MixedName at 1:11\n",
-        ),
-        (
-            "class A { m() => 0xffffffffffffffff; } main() { print(A().m()); }",
-            "refused: unbuilt\n",
-        ),
-        (
-            "class A { m(x) => 7; } main() { print(A().m()); }",
-            "refused: unbuilt\n",
         ),
         (
             "class A { m() => 7; } main() { print(A().m(), 1); }",
             "refused: WrongArgumentsOfStatic at 1:32\n",
         ),
-        (
-            "class A { m() => 7; } main() { print(A().m().m()); }",
-            "refused: unbuilt\n",
-        ),
-        (
-            "class A extends Object { m() => 7; } main() { print(A().m()); }",
-            "refused: unbuilt\n",
-        ),
-        (
-            "main() { print(A().m()); } class A { m() => 7; }",
-            "refused: unbuilt\n",
-        ),
+        ("main() {} other() {}", "refused: no entry point other\n"),
     ] {
-        let line = "run 100 1 main";
+        let line = "run 100 1 main other another";
         expect(
             &rt,
             line,
@@ -224,6 +215,8 @@ fn checks_sources(rt: HostRuntime) -> Result<(), Fail> {
     let twice = b"main() {} main() {}";
     let refused = b"refused: DuplicateName at 1:11\n";
     expect(&rt, "check", twice, &[], &[], Status::NameRefused, refused)?;
+    let list = LIST_TEXT.as_bytes();
+    expect(&rt, "list", first, &[], &[], Status::Done, list)?;
     let no_entry = "run 10 1 main";
     expect(&rt, no_entry, b"", &[], &[0], Status::NameRefused, b"")
 }
@@ -278,7 +271,6 @@ fn runs_a_thousand_methods(rt: HostRuntime) -> Result<(), Fail> {
     for (count, turns, status) in [
         (1000, "run 2001 1 main", Status::Done),
         (1000, "run 2000 1 main", Status::EntryFault),
-        (1001, "run 2001 1 main", Status::NameRefused),
     ] {
         let text = many_methods(&rt, count)?;
         let words = words_of(&rt, turns)?;

@@ -1,16 +1,17 @@
 // What the words of the command line ask for.
 ghost use Rattle.std.specs.Prelude.{◌≡◌, ◌≤◌, ◌<◌, ◌-◌, ◌^◌, ℕ, ◌∷◌, [], MatchOption, min, true, string_bytes};
-ghost use Rattle.dart_sites.specs.Words.{Asks, AsksWorkers, NoRequest, IsNumber, is_plain, is_digit_byte, digits_value, texts, four};
+ghost use Rattle.dart_sites.specs.Words.{Asks, AsksWorkers, NoRequest, IsNumber, is_plain, is_digit_byte, digits_value, texts, request_of};
 ghost use Rattle.std.specs.List.{list_all};
-ghost use Rattle.dart_sites.specs.declared.words.Request.{Request};
 
 /// What the words ask for.
-#[derive(Clone, Copy, Debug, PartialEq, Eq)]
-pub enum Request {
+#[derive(Clone, Copy)]
+pub enum Command<'a> {
     /// `check`: what the source counts.
     Check,
-    /// `run TURNS 1 main`: the entry `main`, with 1 to 1,000,000,000 turns.
-    Run { turns: u64 },
+    /// `list`: its classes and its call sites.
+    List,
+    /// `run TURNS 1 ENTRY ..`: these entries, one after the other, with 1 to 1,000,000,000 turns each.
+    Run { turns: u64, names: &'a [String] },
 }
 
 fn is_digit_byte(b: u8) -> bool
@@ -62,37 +63,45 @@ fn is_plain(text: &[u8]) -> bool
 }
 
 /// The request of a command that stands alone.
-fn read_check(command: &String) -> Option<Request>
-    ensures { MatchOption result (NoRequest (string_bytes command.now ∷ [])) (λ r. Asks (string_bytes command.now ∷ []) r) }
+fn read_alone<'a>(command: &String) -> Option<Command<'a>>
+    ensures { MatchOption result (NoRequest (string_bytes command.now ∷ [])) (λ r. Asks (string_bytes command.now ∷ []) (request_of r)) }
 {
     if command.as_str() == "check" {
-        Some(Request::Check)
-    } else {
-        None
+        return Some(Command::Check);
     }
+    if command.as_str() == "list" {
+        return Some(Command::List);
+    }
+    None
 }
 
-/// The request of a command with turns, workers and one entry.
-fn read_run(command: &String, turns: &String, workers: &String, entry: &String) -> Option<Request>
-    ensures { MatchOption result (NoRequest (four command.now turns.now workers.now entry.now)) (λ r. Asks (four command.now turns.now workers.now entry.now) r) }
+/// The request of a command with turns, workers and entries.
+fn read_run<'a>(
+    command: &String,
+    turns: &String,
+    workers: &String,
+    names: &'a [String],
+) -> Option<Command<'a>>
+    ensures { MatchOption result (NoRequest (string_bytes command.now ∷ string_bytes turns.now ∷ string_bytes workers.now ∷ texts names.now))
+        (λ r. Asks (string_bytes command.now ∷ string_bytes turns.now ∷ string_bytes workers.now ∷ texts names.now) (request_of r)) }
 {
-    if command.as_str() != "run" || workers.as_str() != "1" || entry.as_str() != "main" {
+    if command.as_str() != "run" || workers.as_str() != "1" {
         return None;
     }
     let turns = number(turns.as_str().as_bytes())?;
-    if turns < 1 || turns > 1_000_000_000 {
+    if turns < 1 || turns > 1_000_000_000 || names.len() < 1 || names.len() > 64 {
         return None;
     }
-    Some(Request::Run { turns })
+    Some(Command::Run { turns, names })
 }
 
 /// The request of the words.
-pub fn read_request(words: &[String]) -> Option<Request>
-    ensures { MatchOption result (NoRequest (texts words.now)) (λ r. Asks (texts words.now) r) }
+pub fn read_request<'a>(words: &'a [String]) -> Option<Command<'a>>
+    ensures { MatchOption result (NoRequest (texts words.now)) (λ r. Asks (texts words.now) (request_of r)) }
 {
     match words {
-        [command] => read_check(command),
-        [command, turns, workers, entry] => read_run(command, turns, workers, entry),
+        [command] => read_alone(command),
+        [command, turns, workers, names @ ..] => read_run(command, turns, workers, names),
         _ => None,
     }
 }
@@ -102,7 +111,7 @@ pub fn workers_of(words: &[String]) -> Option<u32>
     ensures { MatchOption result (NoRequest (texts words.now)) (λ count. AsksWorkers (texts words.now) count) }
 {
     match read_request(words) {
-        Some(Request::Check | Request::Run { .. }) => Some(1),
+        Some(Command::Check | Command::List | Command::Run { .. }) => Some(1),
         None => None,
     }
 }

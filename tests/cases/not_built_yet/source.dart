@@ -1,2 +1,0 @@
-class A { m() => 7; }
-main() { print(A().n()); }

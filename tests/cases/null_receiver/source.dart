@@ -1,0 +1,2 @@
+class A {}
+main() { print(null == A()); print(null.foo()); }

@@ -1,0 +1,2 @@
+class B { m() => 1; }
+main() { print(B().m(2)); }
