@@ -8,6 +8,7 @@ use Rattle.dart_meaning.specs.Place.{Place}
 use Rattle.dart_meaning.specs.Numbering as num
 use Rattle.dart_meaning.specs.Forms.{BodyForm, arrow, block}
 
+-- an arrow or a block, where `here` is its class, if any, and `names` are the open variables
 abbrev pub numbered : Tree → (Place → ℕ) → Option Text → List Text → Body → BodyForm
 numbered tree site_of here names (t.arrow e) = arrow (num.exp tree site_of here names e)
 numbered tree site_of here names (t.code all) = block (num.stas tree site_of here names all)

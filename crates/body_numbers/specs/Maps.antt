@@ -16,5 +16,6 @@ nothing q = None
 abbrev pub with_meaning : {V : Type 0} → Text → Option V → Meanings V → Meanings V
 with_meaning n v m q = if bytes_eq n q then v else m q
 
+-- the meanings that a map of src/ holds
 unfoldable pub in_map : {V S : Type 0} → HashMap (Bor Text) V S → Meanings V
 in_map m q = get_by (λ k. bytes_eq q k.now) m

@@ -12,6 +12,7 @@ use Rattle.body_numbers.specs.declared.slots.Open.{Open}
 unfoldable pub slots : List Text → Meanings ℕ
 slots names q = option_map (λ k. length names - suc k) (index_of q names)
 
+-- the names of the open variables, the newest first
 abbrev pub names_of : List Open → List Text
 names_of stack = map (λ (o : Open). o.name.now) stack
 

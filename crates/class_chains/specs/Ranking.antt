@@ -19,9 +19,11 @@ use Rattle.static_rules.specs.Supers.{supers}
 
 -- ---- ranks: where they fall from a class to each one above it, there is no cycle
 
+-- a number for each name
 abbrev pub Rank : Type 0
 Rank = Text → ℕ
 
+-- the ranks that a map of src/ holds, 0 for other names
 abbrev pub rank_in : {S : Type 0} → HashMap (Bor Text) ℕ S → Rank
 rank_in m q = unwrap_or (get_by (λ k. bytes_eq q k.now) m) 0
 
@@ -42,9 +44,11 @@ tells rank cs = nat_eq (rank object) 0 && list_all (λ c. keeps rank (class_of c
 abbrev pub name_texts : List Name → List Text
 name_texts = map (λ (n : Name). n.text)
 
+-- the name behind `extends`, or Object where none is written
 abbrev pub parent_text : Option Name → Text
 parent_text o = unwrap_or (option_map (λ (n : Name). n.text) o) object
 
+-- the names behind `implements`, of a class that is known
 abbrev pub interfaces_in : Option ClassDecl → List Text
 interfaces_in o = unwrap_or (option_map (λ (c : ClassDecl). name_texts c.interfaces) o) []
 

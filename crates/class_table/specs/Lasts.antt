@@ -2,6 +2,7 @@
 use Rattle.std.specs.Prelude.{◌≡◌, ℕ, ◌<◌, ◌≤◌, nat_lt, if◌then◌else◌, IsTrue, List, length, slice_index, slice_set, Option, None, Some}
 use Rattle.program.specs.Hierarchy.{Parents, IsLast, is_above, parent_in}
 
+-- for each class the greatest number among it and the classes below it
 pub record AreLasts (up : Parents) (last : List ℕ) : Type 0 where
   pub same : length last ≡ length up
   pub each : (c : ℕ) → c < length up → IsLast up c (slice_index last c)

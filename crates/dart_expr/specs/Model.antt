@@ -21,10 +21,12 @@ use Rattle.dart_syntax.specs.Grammar.{is_target, repeats}
 use Rattle.dart_expr.specs.Firsts.{begins, begins_under}
 use Rattle.dart_expr.specs.Input.{kind, Parser, ◌>>=◌, ◌>>◌, ◌<$>◌, pure, refuse, deep, here, take, eat, eat_keyword, expect, many_from}
 
+-- the name that the next token is, or a syntax error
 abbrev pub name_by : Option TokenKind → Parser Name
 name_by (Some (tk.Name n)) = (λ at. named n at) <$> take
 name_by _ = refuse
 
+-- takes a name
 unfoldable pub name : Parser Name
 name = λ ts. name_by (kind ts) ts
 
@@ -45,6 +47,7 @@ module _ (whole : Parser Exp) where
         x ← whole
         more_from close n (found ++ x ∷ [])))
 
+  -- arguments or elements, up to and with the closing sign
   unfoldable pub args : Sign → Parser (List Exp)
   args close = do
     is_empty ← eat close
@@ -67,18 +70,22 @@ module _ (whole : Parser Exp) where
     x ← piece
     if x.1 then pure (found ++ x.0 ∷ []) else pieces_from n (found ++ x.0 ∷ [])
 
+  -- the interpolations of a string, up to its end
   unfoldable pub pieces : Parser (List (Piece Exp))
   pieces = λ ts. pieces_from (length ts) [] ts
 
+  -- a name, or a call of it
   unfoldable pub named_term : List ℕ → Parser Exp
   named_term n = do
     at ← take
     is_call ← eat s.ParenOpen
     if is_call then (λ xs. tree.call (named n at) (tree.exps xs)) <$> args s.ParenClose else pure (tree.bare (named n at))
 
+  -- a string with interpolations, at its first piece
   unfoldable pub joined : List ℕ → Parser Exp
   joined u = do at ← take; (λ xs. tree.joined u at (tree.pieces xs)) <$> pieces
 
+  -- a member of `super`, read or called
   unfoldable pub super_term : Parser Exp
   super_term = do
     at ← take
@@ -111,6 +118,7 @@ module _ (whole : Parser Exp) where
   primary_by (Some (tk.Sign s.BracketOpen)) = list
   primary_by _ = refuse
 
+  -- an expression that selectors may follow
   unfoldable pub primary : Parser Exp
   primary = λ ts. primary_by (kind ts) ts
 
@@ -136,6 +144,7 @@ module _ (whole : Parser Exp) where
   unfoldable pub selector : Parser (Option Selector)
   selector = λ ts. selector_by (kind ts) ts
 
+  -- all selectors that follow
   unfoldable pub selectors : Parser (List Selector)
   selectors = λ ts. many_from selector (length ts) [] ts
 
@@ -143,6 +152,7 @@ module _ (whole : Parser Exp) where
   with_selectors x [] = x
   with_selectors x (y ∷ ys) = tree.postfix x (tree.selectors (y ∷ ys))
 
+  -- a primary expression, alone or with selectors
   unfoldable pub postfix : Parser Exp
   postfix = do
     x ← primary
@@ -153,18 +163,22 @@ abbrev pub unary_at : Option TokenKind → Option Unary
 unary_at (Some (tk.Sign c)) = unary_of c
 unary_at _ = None
 
+-- `++` or `--`, if the next token is one of them
 abbrev pub step_at : Option TokenKind → Option Step
 step_at (Some (tk.Sign c)) = step_of c
 step_at _ = None
 
+-- the assignment that the next token is the sign of
 abbrev pub assignment_at : Option TokenKind → Option Assignment
 assignment_at (Some (tk.Sign c)) = assignment_of c
 assignment_at _ = None
 
+-- an operator, if it is one of level n
 abbrev pub of_level : ℕ → Option Binary → Option Binary
 of_level n None = None
 of_level n (Some op) = if level op == n then Some op else None
 
+-- the operator of level n that the next token is the sign of
 abbrev pub binary_at : ℕ → Option TokenKind → Option Binary
 binary_at n (Some (tk.Sign c)) = of_level n (binary_of c)
 binary_at n _ = None
@@ -174,11 +188,13 @@ unfoldable pub target : Exp → Parser Exp
 target x = if is_target x then pure x else refuse
 
 module _ (whole operand : Parser Exp) where
+  -- a sign and its operand
   unfoldable pub signed : Unary → Parser Exp
   signed op = do
     at ← take
     (λ ts. if may_precede op (kind ts) then (tree.unary op at <$> operand) ts else refuse ts)
 
+  -- `++` or `--` and its target
   unfoldable pub before : Step → Parser Exp
   before st = do
     at ← take
@@ -192,6 +208,7 @@ module _ (whole operand : Parser Exp) where
     y ← target x
     (λ at. tree.step false st at y) <$> take
 
+  -- a postfix expression, alone or as the target of a `++` or `--`
   unfoldable pub stepped : Parser Exp
   stepped = do
     x ← postfix whole
@@ -217,6 +234,7 @@ module _ (whole operand : Parser Exp) where
 abbrev pub turns : ℕ → Tokens → ℕ
 turns n ts = if repeats n then length ts else 1
 
+-- an operand, alone or as the first of a chain
 abbrev pub with_links : Exp → List (Link Exp) → Exp
 with_links x [] = x
 with_links x (y ∷ ys) = tree.chain x (tree.links (y ∷ ys))
@@ -227,6 +245,7 @@ tested x at = do
   negated ← eat s.Not
   tree.is x negated at <$> name
 
+-- takes `is`, which stands at the level of the comparisons alone
 abbrev pub is_at : ℕ → Parser Bool
 is_at n = if n == 7 then eat_keyword k.Is else pure false
 
@@ -266,6 +285,7 @@ module _ (whole operand : Parser Exp) where
   climb n zero x = pure x
   climb n (suc k) x = followed (suc n) (chain n) x >>= climb (suc n) k
 
+  -- behind the `?`
   unfoldable pub branches : Exp → Parser Exp
   branches x = do
     y ← whole
@@ -273,6 +293,7 @@ module _ (whole operand : Parser Exp) where
     z ← whole
     pure (tree.choice x y z)
 
+  -- a chain of all levels, alone or as the condition of `? :`
   unfoldable pub cond : Parser Exp
   cond = do
     x ← chain 10
@@ -286,6 +307,7 @@ module _ (whole operand : Parser Exp) where
     at ← take
     tree.assign y op at <$> whole
 
+  -- a condition, alone or as the target of an assignment
   unfoldable pub assigned : Parser Exp
   assigned = do
     x ← cond

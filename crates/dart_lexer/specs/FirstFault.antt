@@ -63,6 +63,7 @@ pub data BadSegment (q l : ℕ) : Text → Fault → Type 0 where
 abbrev pub begins : ℕ → Bool
 begins b = is_in byte.Space b || is_in byte.LineEnd b || b == 47 || is_in byte.Start b || is_quote b || is_in byte.Digit b || b == 123 || b == 125
 
+-- a slash or star, which makes a comment of the slash before it
 abbrev pub is_comment_opening : Text → Bool
 is_comment_opening [] = false
 is_comment_opening (b ∷ bs) = b == 47 || b == 42

@@ -4,12 +4,15 @@ use Rattle.dart_syntax.specs.Bytes.{Text}
 use Rattle.dart_lexer.specs.declared.fault.Fault.{Fault}
 use Rattle.dart_lexer.specs.declared.fault.Fault.TheVariants.{NoMemory}
 
+-- what is taken and the text behind it, or a fault
 abbrev pub Outcome : Type 0 → Type 0
 Outcome A = Result (A × Text) Fault
 
+-- takes something from the front of a text
 abbrev pub Reader : Type 0 → Type 0
 Reader A = Text → Outcome A
 
+-- goes on behind what was taken, and ends at a fault
 abbrev pub and_then : {A B : Type 0} → Outcome A → (A → Reader B) → Outcome B
 and_then (Ok p) f = f p.0 p.1
 and_then (Err e) f = Err e

@@ -50,6 +50,7 @@ given (traps t) = trapped t
 abbrev pub invoked : {V : Type 0} → Selector → List Value → M V Value
 invoked sel args = new (list args) >>= (λ all. new (invocation (told_name sel.kind sel.name) all sel.kind))
 
+-- what stands before element i in the text of a list
 abbrev pub comma_before : ℕ → Text
 comma_before i = choose (nat_eq i 0) [] (codes ", ")
 
@@ -105,6 +106,7 @@ module _ {V Code : Type 0} (w : World V Code) where
   combine_by b.NotEqual k v u = equals k.site.0 v u >>= (λ same. pure (bool (not same)))
   combine_by _ k v u = operate k v u
 
+  -- a right side of `&&` or `||`, which has to be a bool
   abbrev pub truth : M V Value → M V Value
   truth m = m >>= need_bool >>= (λ x. pure (bool x))
 
@@ -137,5 +139,6 @@ module _ {V Code : Type 0} (w : World V Code) where
       look (λ r. slice_index_or (items_in (thing_at r.store.heap v)) s.0 null) >>= to_text w.list_site
       >>= (λ shown. pure (again (s.0 + 1, s.1 ++ (comma_before s.0 ++ shown))))
 
+  -- the text of a list, from its bracket on
   abbrev pub list_text : Value → M V Value
   list_text v = looping (list_goes_on v) (list_element v) (0, codes "[")

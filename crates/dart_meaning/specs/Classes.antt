@@ -20,14 +20,17 @@ use Rattle.dart_meaning.specs.Program.{Found, built_in, reads, writes, coded, Pr
 
 -- ---- what a tree declares, in the order of the text
 
+-- the class that a declaration is, if it is one
 abbrev pub class_at : Top → Option ClassDecl
 class_at (t.a_class c) = Some c
 class_at _ = None
 
+-- the function that a declaration is, if it is one
 abbrev pub function_at : Top → Option Function
 function_at (t.a_function f) = Some f
 function_at _ = None
 
+-- the variable that a declaration is, if it is one
 abbrev pub variable_at : Top → Option Local
 variable_at (t.a_variable v) = Some v
 variable_at _ = None
@@ -36,9 +39,11 @@ variable_at _ = None
 abbrev pub classes : Tree → List ClassDecl
 classes tree = filter_map class_at tree.tops
 
+-- the top-level functions
 abbrev pub functions : Tree → List Function
 functions tree = filter_map function_at tree.tops
 
+-- the top-level variables
 abbrev pub variables : Tree → List Local
 variables tree = filter_map variable_at tree.tops
 
@@ -48,13 +53,16 @@ first_some [] = None
 first_some (Some a ∷ more) = Some a
 first_some (None ∷ more) = first_some more
 
+-- a value under a condition
 abbrev pub if_so : {A : Type 0} → Bool → A → Option A
 if_so true a = Some a
 if_so false a = None
 
+-- the first class of the user's with this name
 abbrev pub class_named : Tree → Text → Option ClassDecl
 class_named tree name = first_some (map (λ (c : ClassDecl). if_so (bytes_eq c.name.text name) c) (classes tree))
 
+-- the first function with this name
 abbrev pub function_named : Tree → Text → Option Function
 function_named tree name = first_some (map (λ (f : Function). if_so (bytes_eq f.name.text name) f) (functions tree))
 
@@ -64,6 +72,7 @@ variable_place tree name = position (λ (v : Local). bytes_eq v.name.text name) 
 
 -- ---- the hierarchy, by names
 
+-- the name of the class above all others
 abbrev pub object : Text
 object = codes "Object"
 
@@ -76,6 +85,7 @@ abbrev pub parent_of : Option ClassDecl → Text → Option Text
 parent_of (Some c) class = Some (unwrap_or (option_map (λ (n : Name). n.text) c.parent) object)
 parent_of None class = if_so (not (bytes_eq class object)) object
 
+-- the name of the class directly above one
 abbrev pub parent : Tree → Text → Option Text
 parent tree class = parent_of (class_named tree class) class
 
@@ -83,6 +93,7 @@ parent tree class = parent_of (class_named tree class) class
 abbrev pub class_count : Tree → ℕ
 class_count tree = 7 + length (classes tree)
 
+-- the classes from one up by `extends`, at most n of them
 abbrev pub chain_from : ℕ → Tree → Text → List Text
 chain_from zero tree class = []
 chain_from (suc n) tree class = class ∷ unwrap_or (option_map (chain_from n tree) (parent tree class)) []
@@ -91,12 +102,15 @@ chain_from (suc n) tree class = class ∷ unwrap_or (option_map (chain_from n tr
 abbrev pub chain : Tree → Text → List Text
 chain tree class = chain_from (class_count tree) tree class
 
+-- the classes above one, the nearest first
 abbrev pub chain_above : Tree → Text → List Text
 chain_above tree class = drop 1 (chain tree class)
 
+-- the names behind `implements` in a class's head
 abbrev pub interfaces_of : Tree → Text → List Text
 interfaces_of tree class = unwrap_or (option_map (λ (c : ClassDecl). map (λ (n : Name). n.text) c.interfaces) (class_named tree class)) []
 
+-- the same as `is_subtype`, over ways of at most n classes
 abbrev pub is_subtype_from : ℕ → Tree → Text → Text → Bool
 is_subtype_from zero tree class other = false
 is_subtype_from (suc n) tree class other =
@@ -108,6 +122,7 @@ is_subtype tree class other = is_subtype_from (class_count tree) tree class othe
 
 -- ---- fields
 
+-- the field that a member is, if it is one
 abbrev pub field_of : Member → Option Local
 field_of (t.field f) = Some f
 field_of _ = None
@@ -151,6 +166,7 @@ constructor_in _ = None
 abbrev pub no_constructor : Constructor
 no_constructor = record { params = []; passes = t.no_more; body = t.done }
 
+-- the constructor that a class has, written or not
 abbrev pub constructor_of : Tree → Text → Constructor
 constructor_of tree class =
     unwrap_or (option_and_then (λ (c : ClassDecl). first_some (map constructor_in c.members)) (class_named tree class)) no_constructor
@@ -168,6 +184,7 @@ pub record Taking : Type 0 where
   pub most : ℕ
   pub found : Found Code
 
+-- a member with the least and the greatest number of arguments
 abbrev pub taking : ℕ → ℕ → Found Code → Taking
 taking least most found = record { least = least; most = most; found = found }
 
@@ -190,6 +207,7 @@ in_member place class Set name (t.setter n param body) = if bytes_eq n.text name
 in_member place class Call name (t.operator op span params body) = if bytes_eq (operator_name op params) name then with_body class params body else None
 in_member place class kind name _ = None
 
+-- built-in member number m takes exactly as many arguments as it has parameters
 abbrev pub built_in_taking : ℕ → Taking
 built_in_taking m =
     let count = unwrap_or (option_map (λ (k : Method). k.required) (slice_get built_in_members m)) 0
@@ -205,6 +223,7 @@ in_class tree None class kind name =
 abbrev pub own : Tree → Text → SelectorKind → Text → Option Taking
 own tree class kind name = in_class tree (class_named tree class) class kind name
 
+-- whether a member takes so many arguments
 abbrev pub agrees : ℕ → Taking → Bool
 agrees count m = nat_le m.least count && nat_le count m.most
 
@@ -240,6 +259,7 @@ abbrev pub children : Tree → Text → List Text
 children tree class =
     filter_map (λ (c : ClassDecl). if_so (bytes_eq (unwrap_or (parent tree c.name.text) []) class) c.name.text) (classes tree)
 
+-- a class and the classes below it, each before those that extend it, at most n levels deep
 abbrev pub preorder : ℕ → Tree → Text → List Text
 preorder zero tree class = []
 preorder (suc n) tree class = class ∷ flat_map (preorder n tree) (children tree class)
@@ -248,9 +268,11 @@ preorder (suc n) tree class = class ∷ flat_map (preorder n tree) (children tre
 abbrev pub class_names : Tree → List Text
 class_names tree = built_in_names ++ flat_map (preorder (class_count tree) tree) (children tree object)
 
+-- the number of a class, which values and calls know it by
 abbrev pub class_number : Tree → Text → ℕ
 class_number tree name = unwrap_or (position (bytes_eq name) (class_names tree)) 0
 
+-- the name of the class of this number
 abbrev pub class_name : Tree → ℕ → Text
 class_name tree c = slice_index_or (class_names tree) c []
 
@@ -268,6 +290,7 @@ pub record IsLast (tree : Tree) (c last : ℕ) : Type 0 where
   pub below : IsTrue (is_below tree last c)
   pub greatest : (d : ℕ) → d < class_numbers tree → IsTrue (is_below tree d c) → d ≤ last
 
+-- whether the text declares the class abstract
 abbrev pub is_abstract : Tree → Text → Bool
 is_abstract tree class = unwrap_or (option_map (λ (c : ClassDecl). c.is_abstract) (class_named tree class)) false
 
@@ -285,6 +308,7 @@ is_constructed tree name = bytes_eq name object || is_some (class_named tree nam
 abbrev pub constructor_at : Tree → Text → Option Code
 constructor_at tree class = if_so (not (bytes_eq class object)) (constructing class (constructor_of tree class))
 
+-- what calls ask of a tree, its classes by their numbers
 abbrev pub of_tree : Tree → Program Code
 of_tree tree = record {
   lookup = λ c sel. lookup tree (class_name tree c) sel;

@@ -18,6 +18,7 @@ module _ (tree : Tree) (site_of : Place → ℕ) (enter : Entry Code → M Bound
   inside_code (body_of here params body) me args = framed (reverse (bind params args)) me (body_value tree site_of here enter body)
   inside_code (constructing class c) me args = build tree site_of (Some class) enter class c me (bind c.params args)
 
+  -- what an entry does once its turn is spent
   abbrev pub inside : Entry Code → M Bound Value
   inside (running code me args) = inside_code code me args
   inside (listing v) = framed [] v (calls.list_text (world tree site_of None enter) v)
@@ -35,9 +36,11 @@ greatest_depth = 2000
 abbrev pub first_store : List Value → ℕ → Store
 first_store globals turns = record { heap = []; globals = globals; lines = []; turns = turns; asked = []; tests = [] }
 
+-- a run before its first step
 abbrev pub start : {V : Type 0} → List Value → ℕ → Run V
 start globals turns = record { vars = []; this = null; store = first_store globals turns }
 
+-- what the variables of the unit hold at first
 abbrev pub globals_of : Tree → List Value
 globals_of tree = map (λ (v : Local). literal_or_null v.value) (variables tree)
 
@@ -56,10 +59,12 @@ pub record Meaning : Type 0 where
 abbrev pub told : Ending → Store → Meaning
 told ending s = record { lines = s.lines; ending = ending; asked = s.asked; tests = s.tests }
 
+-- what a run told, whether it went through or was ended
 abbrev pub seen : {V A : Type 0} → Result V A → Meaning
 seen (went a r) = told done r.store
 seen (ended e r) = told e r.store
 
+-- what an entry does with a number of turns
 abbrev pub entry_meaning : Tree → (Place → ℕ) → Function → ℕ → Meaning
 entry_meaning tree site_of f turns = seen (entry_run tree site_of greatest_depth f turns)
 
@@ -68,6 +73,7 @@ abbrev pub left : {V A : Type 0} → Result V A → ℕ
 left (went a r) = r.store.turns
 left (ended e r) = r.store.turns
 
+-- how many turns an entry spends of those that it has
 abbrev pub turns_spent : Tree → (Place → ℕ) → Function → ℕ → ℕ
 turns_spent tree site_of f turns = turns - left (entry_run tree site_of greatest_depth f turns)
 

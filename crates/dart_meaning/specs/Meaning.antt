@@ -30,10 +30,12 @@ pub record Bound : Type 0 where
 abbrev pub bound : Text → Value → Bound
 bound name v = record { name = name; holds = v }
 
+-- what the newest variable of a name holds
 abbrev pub find : Text → List Bound → Option Value
 find name [] = None
 find name (b ∷ more) = if bytes_eq b.name name then Some b.holds else find name more
 
+-- the newest variable of a name holds v now
 abbrev pub put : Text → Value → List Bound → List Bound
 put name v [] = []
 put name v (b ∷ more) = if bytes_eq b.name name then record b { holds = v } ∷ more else b ∷ put name v more
@@ -44,6 +46,7 @@ bind [] args = []
 bind (p ∷ more) [] = bound p.name.text (literal_or_null p.default) ∷ bind more []
 bind (p ∷ more) (v ∷ args) = bound p.name.text v ∷ bind more args
 
+-- how many arguments there are
 abbrev pub count : Exps → ℕ
 count t.no_more = 0
 count (t.also e more) = suc (count more)
@@ -72,6 +75,7 @@ unnamed _ vars = vars
 
 -- `site_of` numbers the sites. `here` is the class that holds the text, if any. `enter` does what stands one level deeper.
 module _ (tree : Tree) (site_of : Place → ℕ) (here : Option Text) (enter : Entry Code → M Bound Value) where
+  -- the tree as calls see it, with the two sites of the prelude
   abbrev pub world : World Bound Code
   world = record { program = of_tree tree; print_site = site_of in_print; list_site = site_of in_list; enter = enter }
 
@@ -84,18 +88,23 @@ module _ (tree : Tree) (site_of : Place → ℕ) (here : Option Text) (enter : E
   abbrev pub site : Span → ℕ
   site span = site_of (reading span.start)
 
+  -- the site at a token that is written
   abbrev pub writing_site : Span → ℕ
   writing_site span = site_of (writing span.start)
 
+  -- a member that is read
   abbrev pub get : Name → Value → M Bound Value
   get n v = calls.send world (site n.span) (getting n.text) v []
 
+  -- a member that is called with k arguments
   abbrev pub call_member : Name → ℕ → Value → List Value → M Bound Value
   call_member n k v args = calls.send world (site n.span) (calling n.text k) v args
 
+  -- an index that is read, at its bracket
   abbrev pub element : Span → Value → Value → M Bound Value
   element span v i = calls.send world (site span) (calling (codes "[]") 1) v (i ∷ [])
 
+  -- an operator before its operand; `!` calls none
   abbrev pub prefixed : Unary → Span → Value → M Bound Value
   prefixed u.Minus span v = calls.send world (site span) (calling (codes "unary-") 0) v []
   prefixed u.Complement span v = calls.send world (site span) (calling (codes "~") 0) v []
@@ -118,6 +127,7 @@ module _ (tree : Tree) (site_of : Place → ℕ) (here : Option Text) (enter : E
   destination_of of_unit n = pure (at_unit n)
   destination_of of_this n = this >>= (λ me. pure (at_member me n))
 
+  -- what a bare name reads or writes, by the variables that are open now
   abbrev pub bare : Name → M Bound Destination
   bare n = look (λ r. owner_of r n.text) >>= (λ owner. destination_of owner n)
 
@@ -163,6 +173,7 @@ module _ (tree : Tree) (site_of : Place → ℕ) (here : Option Text) (enter : E
 
   -- ---- bare calls
 
+  -- a call of a member of `this`; the arguments are evaluated behind it
   abbrev pub call_this : Name → ℕ → M Bound (List Value) → M Bound Value
   call_this n k args = this >>= (λ me. args >>= call_member n k me)
 
@@ -244,6 +255,7 @@ module _ (tree : Tree) (site_of : Place → ℕ) (here : Option Text) (enter : E
     destination (t.postfix e more) = value e >>= (λ v. last_of v more)
     destination _ = no_destination
 
+    -- what the last selector names, on what those before it answer
     pub last_of : Value → Selectors → M Bound Destination
     last_of v t.no_selector = no_destination
     last_of v (t.select s t.no_selector) = named_by s v
@@ -254,6 +266,7 @@ module _ (tree : Tree) (site_of : Place → ℕ) (here : Option Text) (enter : E
     named_by (t.send n args) v = no_destination
     named_by (t.index span e) v = value e >>= (λ i. pure (at_element v span i))
 
+  -- a condition has to be a bool
   abbrev pub test : Exp → M Bound Bool
   test e = value e >>= need_bool
 
@@ -269,6 +282,7 @@ module _ (tree : Tree) (site_of : Place → ℕ) (here : Option Text) (enter : E
 
   -- ---- statements
 
+  -- without a value it holds null
   abbrev pub local : Local → M Bound (Unit {0})
   local l = value_if l.value >>= (λ v. declare (bound l.name.text v))
 
@@ -320,5 +334,6 @@ module _ (tree : Tree) (site_of : Place → ℕ) (here : Option Text) (enter : E
     doing_all c.body
     pure me
 
+  -- a constructor with a frame of its own
   abbrev pub build : Text → Constructor → Value → List Bound → M Bound Value
   build class c me vars = framed (reverse vars) me (building class c me vars)

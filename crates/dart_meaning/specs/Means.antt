@@ -14,6 +14,7 @@ use Rattle.dart_meaning.specs.Uses.{Kind, of_function, of_member, of_passed, of_
 
 -- ---- names of declarations
 
+-- the name that a declaration gives
 abbrev pub top_name : Top → Name
 top_name (t.a_class c) = c.name
 top_name (t.a_function f) = f.name
@@ -30,9 +31,11 @@ is_built_in name = list_any (bytes_eq name) built_in_names || bytes_eq print_nam
 abbrev pub top_named : Tree → Text → Option Top
 top_named tree name = find (λ top. bytes_eq (top_name top).text name) tree.tops
 
+-- the text declares this name, or it is a built-in class or `print`
 abbrev pub is_top : Tree → Text → Bool
 is_top tree name = is_some (top_named tree name) || is_built_in name
 
+-- a class of the text or a built-in one has this name
 abbrev pub is_class : Tree → Text → Bool
 is_class tree name = is_some (class_named tree name) || list_any (bytes_eq name) built_in_names
 
@@ -52,6 +55,7 @@ super_member tree (Some c) kind name = first_some (map (λ class. own tree class
 
 -- ---- bare names
 
+-- what a bare name means where it stands
 pub data Means : Type 0 where
   -- a local before the end of its declaration
   too_early : Means
@@ -72,6 +76,7 @@ beyond false true this = a_top
 beyond false false true = of_this
 beyond false false false = nothing
 
+-- the meaning of a bare name in a part of the tree, with what the scope there knows of it
 abbrev pub means : Tree → Part → Name → Option Seen → Means
 means tree part n (Some Late) = too_early
 means tree part n (Some (Ready is_final)) = a_local is_final

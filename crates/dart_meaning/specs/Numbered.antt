@@ -40,6 +40,7 @@ method_found m (does.ReadField field) = reads field
 method_found m (does.WriteField field) = writes field
 method_found m (does.Code b) = coded (the_method m)
 
+-- what member number m does, if there is one
 abbrev pub method_at : Parts → ℕ → Option (Found Code)
 method_at p m = option_map (λ (k : Method). method_found m k.body) (slice_get p.methods m)
 
@@ -51,9 +52,11 @@ own_values p class = unwrap_or (option_map (λ (k : Class). map (λ (f : Field).
 abbrev pub fields : Parts → ℕ → List Value
 fields p class = flat_map (own_values p) (reverse (hierarchy.chain (parents p.classes) class))
 
+-- the constructor of a class, by the class's number; Object's is not entered
 abbrev pub constructor_at : ℕ → Option Code
 constructor_at class = if_so (not (nat_eq class 0)) (the_constructor class)
 
+-- what calls ask of a numbered program
 abbrev pub of_numbered : Parts → Program Code
 of_numbered p = record {
   lookup = λ class sel. option_and_then (method_at p) (found_by p class sel);
@@ -73,10 +76,12 @@ pub record Coded : Type 0 where
   pub defaults : List Literal
   pub body : Body
 
+-- a member's code with its parameters; a built-in member and a field have none
 abbrev pub with_code : ℕ → List Literal → MethodBody → Option Coded
 with_code required defaults (does.Code b) = Some (record { required = required; defaults = defaults; body = b })
 with_code required defaults _ = None
 
+-- a function's body with its parameters
 abbrev pub function_coded : Function → Coded
 function_coded k = record { required = k.required; defaults = k.defaults; body = k.body }
 
@@ -86,6 +91,7 @@ coded_at p (the_function f) = option_map function_coded (slice_get p.functions f
 coded_at p (the_method m) = option_and_then (λ (k : Method). with_code k.required k.defaults k.body) (slice_get p.methods m)
 coded_at p (the_constructor class) = None
 
+-- the number of the class directly above one
 abbrev pub class_above : Parts → ℕ → ℕ
 class_above p class = unwrap_or (hierarchy.parent_in (parents p.classes) class) 0
 
@@ -97,6 +103,7 @@ filled [] args = []
 filled (d ∷ defaults) [] = d ∷ filled defaults []
 filled (d ∷ defaults) (v ∷ args) = v ∷ filled defaults args
 
+-- what a body's parameters hold: the arguments, and then the defaults of those that are left
 abbrev pub parameters : ℕ → List Literal → List Value → List Value
 parameters required defaults args = filled (replicate required null ++ map literal defaults) args
 
@@ -231,6 +238,7 @@ module _ (p : Parts) (enter : Entry Code → M Value Value) where
     destinations (c.of_member e g s) = value e >>= (λ v. pure (at_member v g, at_member v s))
     destinations (c.of_element e i g s) = value e >>= (λ v. value i >>= (λ w. pure (at_element v w g, at_element v w s)))
 
+  -- a condition has to be a bool
   abbrev pub test : Exp → M Value Bool
   test e = value e >>= need_bool
 
@@ -277,6 +285,7 @@ module _ (p : Parts) (enter : Entry Code → M Value Value) where
     doing_all all
     pure me
 
+  -- a constructor with a frame of its own
   abbrev pub build : ℕ → List (Option ℕ) → Exps → Stas → Value → List Value → M Value Value
   build class sets passes all me vars = framed (reverse vars) me (building class sets passes all me vars)
 
@@ -290,6 +299,7 @@ module _ (p : Parts) (enter : Entry Code → M Value Value) where
   run_coded None me args = pure null
   run_coded (Some k) me args = framed (reverse (parameters k.required k.defaults args)) me (body_value k.body)
 
+  -- what an entry does once its turn is spent
   abbrev pub inside : Entry Code → M Value Value
   inside (running (the_function f) me args) = run_coded (coded_at p (the_function f)) me args
   inside (running (the_method m) me args) = run_coded (coded_at p (the_method m)) me args

@@ -28,6 +28,7 @@ use Rattle.dart_syntax.specs.Places.{line_at, column_at}
 abbrev pub default : Param → Option Value
 default p = if_so p.optional (literal_or_null p.default)
 
+-- the defaults of the parameters that a call may leave out
 abbrev pub defaults : List Param → List Value
 defaults params = filter_map default params
 
@@ -38,6 +39,7 @@ abbrev pub among : Site → List Site → List Site
 among s [] = s ∷ []
 among s (x ∷ more) = if nat_le (key s.place) (key x.place) then s ∷ x ∷ more else x ∷ among s more
 
+-- the sites sorted by their places
 abbrev pub in_order : List Site → List Site
 in_order [] = []
 in_order (s ∷ more) = among s (in_order more)
@@ -50,15 +52,18 @@ ordered_sites tree = in_order (text_sites tree) ++ prelude_sites
 unfoldable pub numbered_selectors : Tree → List Selector
 numbered_selectors tree = each_once (map (λ (s : Site). s.selector) (ordered_sites tree))
 
+-- the number of a selector: how many are used before it
 abbrev pub selector_number : Tree → Selector → ℕ
 selector_number tree sel = unwrap_or (position (same_selector sel) (numbered_selectors tree)) 0
 
+-- a place by its line and column in the text
 abbrev pub shown_place : Text → Place → program_place.SitePlace
 shown_place text (reading byte) = place.At (line_at text byte) (column_at text byte)
 shown_place text (writing byte) = place.At (line_at text byte) (column_at text byte)
 shown_place text in_print = place.Print
 shown_place text in_list = place.List
 
+-- a site with the number of its selector
 abbrev pub numbered_site : Text → Tree → Site → program.Site
 numbered_site text tree s = record { selector = record { 0 = selector_number tree s.selector }; place = shown_place text s.place }
 
@@ -120,6 +125,7 @@ module _ (tree : Tree) where
   numbered_member class (t.operator op span params body) = with_body class Call (operator_name op params) params body
   numbered_member class (t.constructor n params passed body) = []
 
+  -- the methods of a class
   abbrev pub numbered_members : ClassDecl → List MethodForm
   numbered_members c = flat_map (numbered_member c.name.text) c.members
 

@@ -35,6 +35,7 @@ pub record Key : Type 0 where
 abbrev pub key : Text → SelectorKind → Text → Key
 key class kind name = record { class = class; kind = kind; name = name }
 
+-- two keys of one member
 abbrev pub same_key : Key → Key → Bool
 same_key x y = bytes_eq x.class y.class && (same_kind x.kind y.kind && bytes_eq x.name y.name)
 
@@ -47,6 +48,7 @@ member_keys class (t.setter n param body) = if is_some body then key class Set n
 member_keys class (t.operator op span params body) = if is_some body then key class Call (operator_name op params) ∷ [] else []
 member_keys class (t.constructor n params passed body) = []
 
+-- the key of a built-in member
 abbrev pub built_in_key : Tree → Method → Key
 built_in_key tree m = key (class_name tree m.owner.0) m.role m.name
 
@@ -54,9 +56,11 @@ built_in_key tree m = key (class_name tree m.owner.0) m.role m.name
 abbrev pub all_keys : Tree → List Key
 all_keys tree = map (built_in_key tree) built_in_members ++ flat_map (λ (k : ClassDecl). flat_map (member_keys k.name.text) k.members) (classes tree)
 
+-- the number of a member: how many keys stand before its own
 abbrev pub member_number : Tree → Text → SelectorKind → Text → ℕ
 member_number tree class kind name = unwrap_or (position (same_key (key class kind name)) (all_keys tree)) 0
 
+-- the number of a function: how many functions stand before it in the text
 abbrev pub function_number : Tree → Text → Option ℕ
 function_number tree name = position (λ (f : Function). bytes_eq f.name.text name) (functions tree)
 
@@ -70,6 +74,7 @@ abbrev pub after_first : List Text → t.First → List Text
 after_first names (t.local_first x) = x.name.text ∷ names
 after_first names _ = names
 
+-- the same behind a statement
 abbrev pub after : List Text → t.Sta → List Text
 after names (t.local x) = x.name.text ∷ names
 after names _ = names
@@ -87,9 +92,11 @@ printed c.no_more = c.constant l.Null
 printed (c.also e more) = e
 
 module _ (tree : Tree) (site_of : Place → ℕ) (here : Option Text) where
+  -- the site at a token
   abbrev pub site : Span → ℕ
   site span = site_of (reading span.start)
 
+  -- the site at a token that is written
   abbrev pub writing_site : Span → ℕ
   writing_site span = site_of (writing span.start)
 
@@ -97,6 +104,7 @@ module _ (tree : Tree) (site_of : Place → ℕ) (here : Option Text) where
   abbrev pub super_class : SelectorKind → Text → Text
   super_class kind name = unwrap_or (find (λ class. is_some (own tree class kind name)) (unwrap_or (option_map (chain_above tree) here) [])) []
 
+  -- the number of the member that `super` reaches
   abbrev pub super_number : SelectorKind → Text → ℕ
   super_number kind name = member_number tree (super_class kind name) kind name
 
@@ -104,9 +112,11 @@ module _ (tree : Tree) (site_of : Place → ℕ) (here : Option Text) where
   abbrev pub slot : List Text → Text → ℕ
   slot names name = length names - suc (unwrap_or (index_of name names) 0)
 
+  -- what a bare name is of, where these variables are open
   abbrev pub owner : List Text → Text → Owner
   owner names name = owner_by (is_some (index_of name names)) (class_declares tree here name) (is_some (variable_place tree name))
 
+  -- the number of a variable of the unit
   abbrev pub variable : Text → ℕ
   variable name = unwrap_or (variable_place tree name) 0
 
@@ -114,31 +124,37 @@ module _ (tree : Tree) (site_of : Place → ℕ) (here : Option Text) where
   abbrev pub one_call : Span → c.Exp → c.Exps → c.Exp
   one_call span e args = c.postfix e (c.call (site span) args c.no_call)
 
+  -- a bare name that is read
   abbrev pub bare : List Text → Owner → Name → c.Exp
   bare names of_body x = c.local (slot names x.text)
   bare names of_unit x = c.global (variable x.text)
   bare names of_this x = one_call x.span c.this c.no_more
 
+  -- an operator before its operand; `!` calls none
   abbrev pub prefixed : Unary → Span → c.Exp → c.Exp
   prefixed u.Minus span e = one_call span e c.no_more
   prefixed u.Complement span e = one_call span e c.no_more
   prefixed u.Not span e = c.not e
 
+  -- a minus directly before a number is a constant
   abbrev pub unary : Option Literal → c.Exp → c.Exp
   unary None e = e
   unary (Some k) e = c.constant k
 
+  -- a function, else a class, else `print`, else a member of `this`
   abbrev pub call_unit : Name → c.Exps → Option ℕ → c.Exp
   call_unit x args (Some f) = c.call_function f args
   call_unit x args None =
       if is_constructed tree x.text then c.new (class_number tree x.text) args
       else (if bytes_eq x.text (codes "print") then c.print (printed args) else one_call x.span c.this args)
 
+  -- A member that the enclosing class declares comes before all of these.
   abbrev pub call : Name → c.Exps → c.Exp
   call x args = if class_declares tree here x.text then one_call x.span c.this args else call_unit x args (function_number tree x.text)
 
   -- ---- what is assigned to
 
+  -- where an assignment writes
   abbrev pub target_of : Assignable → c.Target
   target_of (a_local k) = c.to_local k
   target_of (a_global k) = c.to_global k
@@ -146,6 +162,7 @@ module _ (tree : Tree) (site_of : Place → ℕ) (here : Option Text) where
   target_of (a_member e span) = c.to_member e (writing_site span)
   target_of (an_element e i span) = c.to_element e i (writing_site span)
 
+  -- where a compound assignment reads, and where it writes
   abbrev pub update_of : Assignable → c.Update
   update_of (a_local k) = c.of_local k
   update_of (a_global k) = c.of_global k
@@ -153,6 +170,7 @@ module _ (tree : Tree) (site_of : Place → ℕ) (here : Option Text) where
   update_of (a_member e span) = c.of_member e (site span) (writing_site span)
   update_of (an_element e i span) = c.of_element e i (site span) (writing_site span)
 
+  -- an assignment, alone or with an operator
   abbrev pub assigned : Option BinaryOperator → Span → Assignable → c.Exp → c.Exp
   assigned None span to e = c.assign (target_of to) e
   assigned (Some op) span to e = c.compound_assign (update_of to) (operator_call op (site span)) e
@@ -234,6 +252,7 @@ module _ (tree : Tree) (site_of : Place → ℕ) (here : Option Text) where
     named_by names e (t.send x args) = no_target
     named_by names e (t.index span i) = an_element e (exp names i) span
 
+  -- an expression, or a constant where none stands
   abbrev pub exp_or : List Text → Literal → Option t.Exp → c.Exp
   exp_or names other None = c.constant other
   exp_or names other (Some e) = exp names e
@@ -273,6 +292,7 @@ param_names params = reverse (map (λ (p : Param). p.name.text) params)
 abbrev pub body_name : Param → Text
 body_name p = if p.is_field then [] else p.name.text
 
+-- the names that a constructor's body knows, the newest first
 abbrev pub body_names : List Param → List Text
 body_names params = reverse (map body_name params)
 

@@ -8,15 +8,19 @@ use Rattle.dart_values.specs.Values.{Text, Value}
 abbrev pub calling : Text → ℕ → Selector
 calling name count = record { kind = Call; name = name; count = count }
 
+-- the read of a field or the call of a getter
 abbrev pub getting : Text → Selector
 getting name = record { kind = Get; name = name; count = 0 }
 
+-- the write of a field or the call of a setter
 abbrev pub setting : Text → Selector
 setting name = record { kind = Set; name = name; count = 1 }
 
+-- what `print`, an interpolation and the text of a list call
 abbrev pub to_string : Selector
 to_string = calling (codes "toString") 0
 
+-- what is called with an Invocation where no member is found
 abbrev pub no_such_method : Selector
 no_such_method = calling (codes "noSuchMethod") 1
 
@@ -45,6 +49,7 @@ abbrev pub target_or : {Code : Type 0} → Option (Found Code) → Option (Found
 target_or (Some found) other = member found
 target_or None other = missing (unwrap_or other (built_in 2))
 
+-- where a call of a selector goes on an object of this class
 abbrev pub resolve : {Code : Type 0} → Program Code → ℕ → Selector → Target Code
 resolve program class sel = target_or (program.lookup class sel) (program.lookup class no_such_method)
 

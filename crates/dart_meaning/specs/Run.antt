@@ -50,25 +50,32 @@ and_then (went a r) f = f a r
 and_then (ended e r) f = ended e r
 
 infixl 10 ◌>>=◌
+-- one evaluation, then the one that its answer asks for
 abbrev pub ◌>>=◌ : {V A B : Type 0} → M V A → (A → M V B) → M V B
 m >>= f = λ r. and_then (m r) f
 
 infixl 10 ◌>>◌
+-- one evaluation, whose answer is dropped, then another
 abbrev pub ◌>>◌ : {V A B : Type 0} → M V A → M V B → M V B
 m >> k = λ r. and_then (m r) (λ _. k)
 
+-- an answer that changes nothing
 abbrev pub pure : {V A : Type 0} → A → M V A
 pure a = λ r. went a r
 
+-- the end of the isolate
 abbrev pub stop : {V A : Type 0} → Ending → M V A
 stop e = λ r. ended e r
 
+-- the end by a trap
 abbrev pub trapped : {V A : Type 0} → Trap → M V A
 trapped t = stop (threw t)
 
+-- an answer read off the run, which stays as it is
 abbrev pub look : {V A : Type 0} → (Run V → A) → M V A
 look f = λ r. went (f r) r
 
+-- a change of the run, with no answer of its own
 abbrev pub change : {V : Type 0} → (Run V → Run V) → M V (Unit {0})
 change f = λ r. went tt (f r)
 
@@ -84,6 +91,7 @@ abbrev pub spend_from : {V : Type 0} → ℕ → M V (Unit {0})
 spend_from zero = stop out_of_turns
 spend_from (suc n) = change (in_store (λ s. record s { turns = n }))
 
+-- spends one turn; where none is left the isolate ends
 abbrev pub spend : {V : Type 0} → M V (Unit {0})
 spend = λ r. spend_from r.store.turns r
 
@@ -92,6 +100,7 @@ pub data Next (S A : Type 0) : Type 0 where
   again : S → Next S A
   leaves : A → Next S A
 
+-- what follows a test or a turn of a loop, unless it leaves the loop
 abbrev pub on_again : {V S A : Type 0} → (S → M V A) → Next S A → M V A
 on_again f (again s) = f s
 on_again f (leaves a) = pure a
@@ -107,10 +116,12 @@ looping test turn s = look (λ r. r.store.turns) >>= (λ n. loop n test turn s)
 
 -- ---- values of a kind
 
+-- the bool that a value is, or a TypeFault
 abbrev pub need_bool : {V : Type 0} → Value → M V Bool
 need_bool (bool b) = pure b
 need_bool _ = trapped trap.TypeFault
 
+-- the string that a value is, or a TypeFault
 abbrev pub need_text : {V : Type 0} → Value → M V Text
 need_text (text s) = pure s
 need_text _ = trapped trap.TypeFault
@@ -131,14 +142,17 @@ set_field v k w = change (in_store (λ s. record s { heap = with_field s.heap v 
 abbrev pub ask : {V : Type 0} → ℕ → Value → M V ℕ
 ask site v = λ r. went (class_of r.store.heap v) (in_store (λ s. record s { asked = s.asked ++ (site, class_of s.heap v) ∷ [] }) r)
 
+-- counts a test by `is` of a value of the one class for the other
 abbrev pub note_test : {V : Type 0} → ℕ → ℕ → M V (Unit {0})
 note_test class named = change (in_store (λ s. record s { tests = s.tests ++ (class, named) ∷ [] }))
 
+-- a line that `print` writes
 abbrev pub add_line : {V : Type 0} → Text → M V (Unit {0})
 add_line line = change (in_store (λ s. record s { lines = s.lines ++ line ∷ [] }))
 
 -- ---- variables
 
+-- a new variable of the body that runs
 abbrev pub declare : {V : Type 0} → V → M V (Unit {0})
 declare v = change (λ r. record r { vars = v ∷ r.vars })
 

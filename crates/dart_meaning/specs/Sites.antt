@@ -14,6 +14,7 @@ use Rattle.dart_meaning.specs.Program.{calling, getting, setting, to_string}
 use Rattle.dart_meaning.specs.Uses.{Use, reads, writes, calls, member_reads, member_writes, member_calls, index_reads, index_writes, operates, prefixes, shows, Part, parts}
 use Rattle.dart_meaning.specs.Means.{means, is_of_this}
 
+-- a call site: where it stands, and what it calls
 pub record Site : Type 0 where
   pub place : Place
   pub selector : Selector
@@ -27,6 +28,7 @@ prefix_name unary.Minus = codes "unary-"
 prefix_name unary.Complement = codes "~"
 prefix_name unary.Not = codes "!"
 
+-- a site, if the name means a member of `this`
 abbrev pub if_of_this : Bool → Site → List Site
 if_of_this of_this s = if of_this then s ∷ [] else []
 
@@ -53,6 +55,7 @@ text_sites tree = flat_map (λ part. flat_map (sites_of_use tree part) part.uses
 abbrev pub prelude_sites : List Site
 prelude_sites = site in_print to_string ∷ site in_list to_string ∷ []
 
+-- all sites of a tree, those of the prelude last
 abbrev pub sites : Tree → List Site
 sites tree = text_sites tree ++ prelude_sites
 
@@ -76,6 +79,7 @@ site_at tree number = find (λ s. nat_eq (site_of tree s.place) number) (sites t
 
 -- ---- selectors
 
+-- two selectors of one kind, name and number of arguments
 abbrev pub same_selector : Selector → Selector → Bool
 same_selector x y = same_kind x.kind y.kind && bytes_eq x.name y.name && nat_eq x.count y.count
 

@@ -20,9 +20,11 @@ use Rattle.dart_meaning.specs.declared.seen.Seen.TheVariants.{Late, Ready}
 abbrev pub Scope : Type 0
 Scope = Text → Option Seen
 
+-- outside of all bodies no name is a local
 abbrev pub nothing_seen : Scope
 nothing_seen q = None
 
+-- the scope in which this is known of one name more
 abbrev pub with_seen : Name → Seen → Scope → Scope
 with_seen n seen scope q = if bytes_eq n.text q then Some seen else scope q
 
@@ -55,6 +57,7 @@ after_first _ scope = scope
 abbrev pub with_param : Param → Scope → Scope
 with_param p scope = if p.is_field then scope else with_seen p.name (Ready p.is_final) scope
 
+-- the scope of a body with these parameters, of which a later one hides an earlier one
 abbrev pub with_params : List Param → Scope → Scope
 with_params [] scope = scope
 with_params (p ∷ more) scope = with_params more (with_param p scope)
@@ -66,6 +69,7 @@ with_passed (p ∷ more) scope = with_passed more (with_seen p.name (Ready (p.is
 
 -- ---- uses
 
+-- one thing that a body does with a name, member or operator, with its place
 pub data Use : Type 0 where
   -- a bare name, and what is known of it; `calls` with so many arguments
   reads writes : Name → Option Seen → Use
@@ -108,6 +112,7 @@ abbrev pub operator_use : Option BinaryOperator → Span → List Use
 operator_use None at = []
 operator_use (Some op) at = operates op at ∷ []
 
+-- an integer as it stands in the text
 abbrev pub is_number : Exp → Bool
 is_number (t.int n at) = true
 is_number (t.min_int at) = true
@@ -124,6 +129,7 @@ abbrev pub changes : Bool → Use → Use → List Use
 changes false read write = write ∷ []
 changes true read write = read ∷ write ∷ []
 
+-- whether there is a selector
 abbrev pub has_more : Selectors → Bool
 has_more t.no_selector = false
 has_more (t.select s more) = true
@@ -177,6 +183,7 @@ module _ (scope : Scope) where
     changed reads_too (t.send n args) = []
     changed reads_too (t.index at e) = exp e ++ changes reads_too (index_reads at) (index_writes at)
 
+    -- the selectors of a target; the last one is written
     pub up_to_changed : Bool → Selectors → List Use
     up_to_changed reads_too t.no_selector = []
     up_to_changed reads_too (t.select s more) = if has_more more then selector s ++ up_to_changed reads_too more else changed reads_too s
@@ -188,6 +195,7 @@ module _ (scope : Scope) where
     target reads_too (t.postfix e more) = exp e ++ up_to_changed reads_too more
     target reads_too _ = []
 
+  -- what may be left out
   abbrev pub exp_if : Option Exp → List Use
   exp_if None = []
   exp_if (Some e) = exp e
@@ -197,6 +205,7 @@ abbrev pub declared_uses : Scope → List Name → List Use
 declared_uses scope [] = []
 declared_uses scope (n ∷ more) = declares n (scope n.text) ∷ declared_uses scope more
 
+-- what the first part of a `for` declares and uses
 abbrev pub first_uses : Scope → First → List Use
 first_uses scope t.nothing = []
 first_uses scope (t.local_first l) = declares l.name (scope l.name.text) ∷ exp_if (with_seen l.name Late scope) l.value
@@ -230,9 +239,11 @@ abbrev mutual
   stas loops scope t.done = []
   stas loops scope (t.next x more) = sta loops scope x ++ stas loops (after x scope) more
 
+-- what a body's block declares and uses, outside of any loop
 abbrev pub block_uses : Scope → Stas → List Use
 block_uses scope all = declared_uses scope (locals all) ++ stas false (opened (locals all) scope) all
 
+-- what an arrow or a block uses
 abbrev pub body_uses : Scope → Body → List Use
 body_uses scope (t.arrow e) = exp scope e
 body_uses scope (t.code all) = block_uses scope all
@@ -249,9 +260,11 @@ pub record Part : Type 0 where
   pub class : Option ClassDecl
   pub uses : List Use
 
+-- a part of this kind, in this class if in any
 abbrev pub part : Kind → Option ClassDecl → List Use → Part
 part kind class uses = record { kind = kind; class = class; uses = uses }
 
+-- a member's body; an abstract member has no part
 abbrev pub member_part : ClassDecl → List Param → Option Body → List Part
 member_part c params None = []
 member_part c params (Some b) = part of_member (Some c) (body_uses (with_params params nothing_seen) b) ∷ []
@@ -261,20 +274,24 @@ abbrev pub passed_uses : ClassDecl → List Param → Option Passed → List Use
 passed_uses c params None = enters_super c.name.span 0 ∷ []
 passed_uses c params (Some p) = enters_super p.at (count p.args) ∷ exps (with_passed params nothing_seen) p.args
 
+-- the parameters `this.x`, each of which sets a field
 abbrev pub field_uses : List Param → List Use
 field_uses [] = []
 field_uses (p ∷ more) = if p.is_field then sets_field p.name ∷ field_uses more else field_uses more
 
+-- what a constructor's block uses, if it has one
 abbrev pub some_block_uses : Scope → Option Stas → List Use
 some_block_uses scope None = []
 some_block_uses scope (Some all) = block_uses scope all
 
+-- what is passed to the superclass, and then the fields that are set and the body
 abbrev pub constructor_parts : ClassDecl → List Param → Option Passed → Option Stas → List Part
 constructor_parts c params passed body =
     part of_passed (Some c) (passed_uses c params passed)
     ∷ part of_constructor (Some c) (field_uses params ++ some_block_uses (with_params params nothing_seen) body)
     ∷ []
 
+-- the parts of one member; a field's literal uses nothing
 abbrev pub member_parts : ClassDecl → Member → List Part
 member_parts c (t.field l) = []
 member_parts c (t.method n params b) = member_part c params b
@@ -283,6 +300,7 @@ member_parts c (t.setter n param b) = member_part c (param ∷ []) b
 member_parts c (t.operator op at params b) = member_part c params b
 member_parts c (t.constructor n params passed b) = constructor_parts c params passed b
 
+-- whether a member is a constructor
 abbrev pub is_constructor : Member → Bool
 is_constructor (t.constructor n params passed b) = true
 is_constructor _ = false
@@ -291,10 +309,12 @@ is_constructor _ = false
 abbrev pub class_parts : ClassDecl → List Part
 class_parts c = if list_any is_constructor c.members then flat_map (member_parts c) c.members else constructor_parts c [] None None ++ flat_map (member_parts c) c.members
 
+-- the parts of one declaration; a variable's literal uses nothing
 abbrev pub top_parts : Top → List Part
 top_parts (t.a_class c) = class_parts c
 top_parts (t.a_function f) = part of_function None (body_uses (with_params f.params nothing_seen) f.body) ∷ []
 top_parts (t.a_variable v) = []
 
+-- the parts of the whole tree, in the order of the text
 abbrev pub parts : Tree → List Part
 parts tree = flat_map top_parts tree.tops

@@ -17,16 +17,19 @@ use Rattle.dart_syntax.specs.declared.tree.Operator.{Operator}
 use Rattle.dart_syntax.specs.declared.tree.Operator.TheVariants as op
 use Rattle.dart_syntax.specs.Derivation.{same_text, operator_of, takes}
 
+-- the integer behind a minus at this place; 2 ^ 63 may stand here
 abbrev pub minus_by : Span → Option TokenKind → Parser Exp
 minus_by a (Some (tk.Int n)) = (λ b. tree.unary u.Minus a (tree.int n b)) <$> take
 minus_by a (Some tk.MinInt) = (λ b. tree.unary u.Minus a (tree.min_int b)) <$> take
 minus_by a _ = refuse
 
+-- a minus and an integer
 unfoldable pub minus : Parser Exp
 minus = do
   a ← take
   (λ ts. minus_by a (kind ts) ts)
 
+-- a literal, by the next token
 abbrev pub literal_by : Option TokenKind → Parser Exp
 literal_by (Some (tk.Keyword k.Null)) = tree.null <$> take
 literal_by (Some (tk.Keyword k.True)) = tree.bool true <$> take
@@ -36,6 +39,7 @@ literal_by (Some (tk.Str v)) = tree.str v <$> take
 literal_by (Some (tk.Sign s.Minus)) = minus
 literal_by _ = refuse
 
+-- the first value of a field or a variable of the text
 unfoldable pub literal : Parser Exp
 literal = λ ts. literal_by (kind ts) ts
 
@@ -46,14 +50,17 @@ given = do
   expect s.Semicolon
   pure x
 
+-- what follows a variable's name, up to and with the `;`
 unfoldable pub value : Parser (Option Exp)
 value = do
   is_empty ← eat s.Semicolon
   if is_empty then pure None else (expect s.Assign >> Some <$> given)
 
+-- a parameter's name, behind what stands before it
 unfoldable pub param_name : Bool → Bool → Parser Param
 param_name f g = a_param f g <$> name
 
+-- a parameter, by the next token
 abbrev pub param_by : Bool → Option TokenKind → Parser Param
 param_by c (Some (tk.Keyword k.Var)) = take >> param_name false false
 param_by c (Some (tk.Keyword k.Dynamic)) = take >> param_name false false
@@ -69,6 +76,7 @@ param c = λ ts. param_by c (kind ts) ts
 unfoldable pub listed : {A : Type 0} → Sign → A → Parser (Option A)
 listed close x = λ ts. if sees s.Comma ts then Ok (Some x, next ts) else (if sees close ts then Ok (Some x, ts) else refuse ts)
 
+-- a parameter and the comma behind it, unless the parenthesis closes
 unfoldable pub param_item : Bool → Parser (Option Param)
 param_item c = λ ts. if sees s.ParenClose ts then Ok (None, ts) else (param c >>= listed s.ParenClose) ts
 
@@ -76,6 +84,7 @@ param_item c = λ ts. if sees s.ParenClose ts then Ok (None, ts) else (param c >
 unfoldable pub param_items : Bool → ℕ → Parser (List Param)
 param_items c most = λ ts. many_from (param_item c) most [] ts
 
+-- up to and with the `)`
 unfoldable pub params : Bool → Parser (List Param)
 params c = do
   xs ← (λ ts. param_items c (length ts) ts)
@@ -84,10 +93,12 @@ params c = do
 
 -- ---- operators
 
+-- an operator of one sign
 abbrev pub single : Option Operator → Parser (Operator × Span)
 single None = refuse
 single (Some o) = (λ a. (o, a)) <$> take
 
+-- `[]` or `[]=`, which stands at its first bracket
 unfoldable pub bracketed : Parser (Operator × Span)
 bracketed = do
   a ← take
@@ -95,11 +106,13 @@ bracketed = do
   is_set ← eat s.Assign
   if is_set then pure (op.Set, a) else (λ ts. if sees s.ParenOpen ts then Ok ((op.Get, a), ts) else refuse ts)
 
+-- the name of an operator, by the next token
 abbrev pub operator_by : Option TokenKind → Parser (Operator × Span)
 operator_by (Some (tk.Sign s.BracketOpen)) = bracketed
 operator_by (Some (tk.Sign c)) = single (operator_of c)
 operator_by _ = refuse
 
+-- behind the word `operator`
 unfoldable pub operator : Parser (Operator × Span)
 operator = λ ts. operator_by (kind ts) ts
 
@@ -133,6 +146,7 @@ module _ (inner : Parser Sta) (whole : Parser Exp) where
     expect s.BraceClose
     pure xs
 
+  -- an arrow with its `;`, or a block
   unfoldable pub body : Parser Body
   body = do
     is_arrow ← eat s.Arrow
@@ -141,11 +155,13 @@ module _ (inner : Parser Sta) (whole : Parser Exp) where
       expect s.Semicolon
       pure (tree.arrow x)) else (λ xs. tree.code (tree.stas xs)) <$> block
 
+  -- a body or a `;`
   unfoldable pub some_body : Parser (Option Body)
   some_body = do
     is_empty ← eat s.Semicolon
     if is_empty then pure None else Some <$> body
 
+  -- a block or a `;`
   unfoldable pub some_block : Parser (Option Stas)
   some_block = do
     is_empty ← eat s.Semicolon
@@ -153,6 +169,7 @@ module _ (inner : Parser Sta) (whole : Parser Exp) where
 
   -- ---- members
 
+  -- behind its name and the `(`
   unfoldable pub method : Name → Parser Member
   method n = do
     ps ← params false
@@ -169,18 +186,21 @@ module _ (inner : Parser Sta) (whole : Parser Exp) where
         expect s.ParenOpen
         (λ xs. Some (tree.passing at (tree.exps xs))) <$> args whole s.ParenClose) else refuse) else pure None
 
+  -- behind its name and the `(`
   unfoldable pub constructor : Name → Parser Member
   constructor n = do
     ps ← params true
     xs ← passed
     tree.constructor n ps xs <$> some_block
 
+  -- at the word `get`
   unfoldable pub getter : Parser Member
   getter = do
     take
     n ← name
     tree.getter n <$> some_body
 
+  -- at the word `set`
   unfoldable pub setter : Parser Member
   setter = do
     take
@@ -190,6 +210,7 @@ module _ (inner : Parser Sta) (whole : Parser Exp) where
     expect s.ParenClose
     tree.setter n p <$> some_body
 
+  -- at the word `operator`
   unfoldable pub operator_member : Parser Member
   operator_member = do
     take
@@ -198,9 +219,11 @@ module _ (inner : Parser Sta) (whole : Parser Exp) where
     ps ← operator_params o.0
     tree.operator o.0 o.1 ps <$> some_body
 
+  -- behind its name
   unfoldable pub field : Bool → Name → Parser Member
   field f n = (λ v. tree.field (tree.a_local f n v)) <$> value
 
+  -- a method, or the constructor, which has the class's name and no word before it
   unfoldable pub function_member : List ℕ → Bool → Parser Member
   function_member class typed = do
     n ← name

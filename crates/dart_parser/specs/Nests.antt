@@ -9,6 +9,7 @@ use Rattle.dart_expr.specs.declared.refusal.Refusal.{Refusal}
 use Rattle.dart_expr.specs.Input.{Reads}
 use Rattle.dart_parser.specs.Statements.{stmt}
 
+-- a function value that may be called at any time, and reads statements of at most so many levels
 pub record NestsStmt (depth : ℕ) (pre : Global → MutBor Tokens → ℕ → Type 0)
     (post : Global → MutBor Tokens → ℕ → Result Stmt Refusal → MutBor Tokens → Type 0) : Type 0 where
   pub callable : (alloc : Global) (old : MutBor Tokens) → pre alloc old depth

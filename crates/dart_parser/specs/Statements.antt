@@ -27,11 +27,13 @@ keyword_opens k.Continue = true
 keyword_opens k.Return = true
 keyword_opens _ = false
 
+-- the same of signs
 abbrev pub sign_opens : Sign → Bool
 sign_opens s.BraceOpen = true
 sign_opens s.Semicolon = true
 sign_opens _ = false
 
+-- whether the next token is one of these
 abbrev pub opens_stmt : Option TokenKind → Bool
 opens_stmt (Some (tk.Keyword w)) = keyword_opens w
 opens_stmt (Some (tk.Sign c)) = sign_opens c
@@ -46,17 +48,20 @@ unfoldable pub item : (Tokens → Bool) → Parser Sta → Parser (Option Sta)
 item ends inner = λ ts. if ends ts then Ok (None, ts) else (Some <$> inner) ts
 
 module _ (inner : Parser Sta) (whole : Parser Exp) where
+  -- an expression and its `;`
   unfoldable pub ended : Parser Exp
   ended = do
     x ← whole
     expect s.Semicolon
     pure x
 
+  -- an expression and its `;`, or a `;` at once
   unfoldable pub valued : Parser (Option Exp)
   valued = do
     is_empty ← eat s.Semicolon
     if is_empty then pure None else Some <$> ended
 
+  -- what follows the name of a local, up to and with the `;`
   unfoldable pub initial : Parser (Option Exp)
   initial = do
     is_empty ← eat s.Semicolon
@@ -110,6 +115,7 @@ module _ (inner : Parser Sta) (whole : Parser Exp) where
   unfoldable pub comma_items : List Exp → Parser (List Exp)
   comma_items found = λ ts. many_from comma_item (length ts) found ts
 
+  -- the last part of a `for`, up to and with the `)`
   unfoldable pub last : Parser (List Exp)
   last = do
     is_empty ← eat s.ParenClose
@@ -128,6 +134,7 @@ module _ (inner : Parser Sta) (whole : Parser Exp) where
     expect s.ParenClose
     pure x
 
+  -- at the word `if`
   unfoldable pub branches : Parser Sta
   branches = do
     x ← condition
@@ -135,11 +142,13 @@ module _ (inner : Parser Sta) (whole : Parser Exp) where
     is_else ← eat_keyword k.Else
     if is_else then (λ z. tree.when_else x y z) <$> inner else pure (tree.when x y)
 
+  -- at the word `while`
   unfoldable pub repeated : Parser Sta
   repeated = do
     x ← condition
     tree.while x <$> inner
 
+  -- at the word `do`
   unfoldable pub do_repeated : Parser Sta
   do_repeated = do
     take
@@ -153,6 +162,7 @@ module _ (inner : Parser Sta) (whole : Parser Exp) where
   unfoldable pub counted_by : tree.First → Option Exp → List Exp → Parser Sta
   counted_by f c xs = tree.for f c (tree.exps xs) <$> inner
 
+  -- at the word `for`
   unfoldable pub counted : Parser Sta
   counted = do
     take

@@ -13,6 +13,7 @@ use Rattle.dart_parser.specs.Statements.{is_last}
 use Rattle.dart_syntax.specs.Derivation.{same_text, marks_entry, any}
 use Rattle.dart_parser.specs.Members.{given, value, params, body, member}
 
+-- the string of a `pragma`, and whether it marks an entry
 abbrev pub mark_by : Option TokenKind → Parser Bool
 mark_by (Some (tk.Str v)) = (λ at. marks_entry v) <$> take
 mark_by _ = refuse
@@ -30,11 +31,13 @@ abbrev pub meta_by : Option TokenKind → Parser (Option Bool)
 meta_by (Some (tk.Name n)) = if same_text n (codes "override") then (λ at. Some false) <$> take else (if same_text n (codes "pragma") then take >> pragma else refuse)
 meta_by _ = refuse
 
+-- an `@` word, if one comes, and whether it marks an entry
 unfoldable pub meta : Parser (Option Bool)
 meta = do
   is_meta ← eat s.At
   if is_meta then (λ ts. meta_by (kind ts) ts) else pure None
 
+-- all `@` words before a declaration
 unfoldable pub metas : Parser (List Bool)
 metas = λ ts. many_from meta (length ts) [] ts
 
@@ -44,14 +47,17 @@ parent = do
   is_some ← eat_keyword k.Extends
   if is_some then Some <$> name else pure None
 
+-- a name behind a comma, if one comes
 unfoldable pub comma_name : Parser (Option Name)
 comma_name = do
   is_some ← eat s.Comma
   if is_some then Some <$> name else pure None
 
+-- the names behind commas, after those found
 unfoldable pub more_names : List Name → Parser (List Name)
 more_names found = λ ts. many_from comma_name (length ts) found ts
 
+-- behind `implements`, if it comes
 unfoldable pub interfaces : Parser (List Name)
 interfaces = do
   is_some ← eat_keyword k.Implements
@@ -60,12 +66,14 @@ interfaces = do
     more_names (n ∷ [])) else pure []
 
 module _ (inner : Parser Sta) (whole : Parser Exp) where
+  -- a member behind its metas
   unfoldable pub marked_member : List ℕ → Parser Member
   marked_member class = metas >> member inner whole class
 
   unfoldable pub member_item : List ℕ → Parser (Option Member)
   member_item class = λ ts. if sees s.BraceClose ts then Ok (None, ts) else (Some <$> marked_member class) ts
 
+  -- up to the closing brace, which stays
   unfoldable pub members : List ℕ → Parser (List Member)
   members class = λ ts. many_from (member_item class) (length ts) [] ts
 
@@ -86,6 +94,7 @@ module _ (inner : Parser Sta) (whole : Parser Exp) where
     ps ← params false
     (λ y. tree.a_function (tree.function_of e n ps y)) <$> body inner whole
 
+  -- behind its name
   unfoldable pub variable : Bool → Name → Parser Top
   variable f n = (λ v. tree.a_variable (tree.a_local f n v)) <$> value
 
@@ -96,12 +105,14 @@ module _ (inner : Parser Sta) (whole : Parser Exp) where
     expect s.ParenOpen
     function e n
 
+  -- behind `dynamic`
   unfoldable pub dynamic_top : Bool → Parser Top
   dynamic_top e = do
     n ← name
     is_function ← eat s.ParenOpen
     if is_function then function e n else variable false n
 
+  -- behind `final`
   unfoldable pub constant : Parser Top
   constant = do
     n ← name
@@ -109,6 +120,7 @@ module _ (inner : Parser Sta) (whole : Parser Exp) where
     x ← given
     pure (tree.a_variable (tree.a_local true n (Some x)))
 
+  -- behind `abstract`
   unfoldable pub abstract_class : Parser Top
   abstract_class = do
     is_class ← eat_keyword k.Class
@@ -126,6 +138,7 @@ module _ (inner : Parser Sta) (whole : Parser Exp) where
   unfoldable pub declared : Bool → Parser Top
   declared e = λ ts. declared_by e (kind ts) ts
 
+  -- a declaration behind its metas
   unfoldable pub top : Parser Top
   top = do
     bs ← metas
@@ -137,6 +150,7 @@ module _ (inner : Parser Sta) (whole : Parser Exp) where
   unfoldable pub tops : Parser (List Top)
   tops = λ ts. many_from top_item (length ts) [] ts
 
+  -- all declarations, and the end token
   unfoldable pub whole_unit : Parser (List Top)
   whole_unit = do
     xs ← tops

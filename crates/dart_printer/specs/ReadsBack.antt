@@ -26,6 +26,7 @@ IsPossible (tk.StrMid units) = AreUnits units
 IsPossible (tk.StrClose units) = AreUnits units
 IsPossible _ = Unit {0}
 
+-- all tokens of a list are such
 abbrev pub ArePossible : Tokens → Type 0
 ArePossible = AllByRecursion (λ t. IsPossible t.kind)
 

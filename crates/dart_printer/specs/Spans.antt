@@ -6,6 +6,7 @@ use Rattle.dart_syntax.specs.Operators.{named}
 use Rattle.dart_syntax.specs.Syntax as tree
 use Rattle.dart_syntax.specs.Syntax.{Exp, Exps, Pieces, Links, Selectors, Selector, Local, First, Sta, Stas, Param, Body, Member, Passed, passing, Function, ClassDecl, Top, Tree, a_local, function_of, class_of, tree_of}
 
+-- the one place that is left
 abbrev pub nowhere : Span
 nowhere = record { start = 0; end = 0 }
 

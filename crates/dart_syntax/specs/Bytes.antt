@@ -5,6 +5,7 @@ use Rattle.dart_syntax.specs.declared.byte_kind.ByteKind.{ByteKind}
 use Rattle.dart_syntax.specs.declared.byte_kind.ByteKind.TheVariants as byte
 use Rattle.dart_syntax.specs.declared.token.Span.{Span}
 
+-- a text is the list of its bytes
 abbrev pub Text : Type 0
 Text = List ℕ
 
@@ -20,10 +21,12 @@ is_in byte.Initial b = is_ascii_alphabetic b || b == 95
 is_in byte.Simple b = is_ascii_alphanumeric b || b == 95
 is_in byte.Part b = is_ascii_alphanumeric b || b == 95 || b == 36
 
+-- the next byte, if there is one
 abbrev pub first : Text → Option ℕ
 first [] = None
 first (b ∷ bs) = Some b
 
+-- the text behind the next byte
 abbrev pub next : Text → Text
 next [] = []
 next (b ∷ bs) = bs

@@ -18,15 +18,18 @@ use Rattle.dart_syntax.specs.declared.tree.Operator.TheVariants as op
 
 -- ---- texts
 
+-- whether two texts are equal, byte for byte
 abbrev pub same_text : List ℕ → List ℕ → Bool
 same_text [] [] = true
 same_text [] (y ∷ ys) = false
 same_text (x ∷ xs) [] = false
 same_text (x ∷ xs) (y ∷ ys) = x == y && same_text xs ys
 
+-- whether this is what a `@pragma` of an entry point says
 abbrev pub marks_entry : List ℕ → Bool
 marks_entry u = same_text u (codes "vm:entry-point")
 
+-- whether one of them holds
 abbrev pub any : List Bool → Bool
 any [] = false
 any (x ∷ xs) = x || any xs
@@ -53,6 +56,7 @@ pub data Listed {A : Type 0} (close : Sign) (R : Reading A) : Tokens → A → T
   comma : {a : Span} {x : A} {ts rest : Tokens} → R ts x (sign s.Comma a ∷ rest) → Listed close R ts x rest
   last : {a : Span} {x : A} {ts rest : Tokens} → R ts x (sign close a ∷ rest) → Listed close R ts x (sign close a ∷ rest)
 
+-- a parameter, of a constructor where the flag says so
 pub data ParamText : Bool → Tokens → Param → Tokens → Type 0 where
   plain : {c : Bool} {n : List ℕ} {a : Span} {rest : Tokens} → ParamText c (token (kind.Name n) a ∷ rest) (a_param false false (named n a)) rest
   typed : {c : Bool} {w : Keyword} {n : List ℕ} {a b : Span} {rest : Tokens} → is_var w ≡ true → ParamText c (keyword w a ∷ token (kind.Name n) b ∷ rest) (a_param false false (named n b)) rest
@@ -75,6 +79,7 @@ pub data Ret : Tokens → Bool → Tokens → Type 0 where
   none : {ts : Tokens} → Ret ts false ts
   some : {w : Keyword} {a : Span} {rest : Tokens} → is_ret w ≡ true → Ret (keyword w a ∷ rest) true rest
 
+-- an `@` word before a declaration, and whether it marks an entry
 pub data Meta : Tokens → Bool → Tokens → Type 0 where
   override : {a b : Span} {rest : Tokens} → Meta (sign s.At a ∷ token (kind.Name (codes "override")) b ∷ rest) false rest
   pragma : {v : List ℕ} {a b c d m : Span} {rest : Tokens}
@@ -82,6 +87,7 @@ pub data Meta : Tokens → Bool → Tokens → Type 0 where
 
 -- ---- operators
 
+-- the operator that a class may declare by a sign; `[]` and `[]=` have more signs
 abbrev pub operator_of : Sign → Option Operator
 operator_of s.Plus = Some op.Add
 operator_of s.Minus = Some op.Subtract
@@ -102,6 +108,7 @@ operator_of s.Equal = Some op.Equal
 operator_of s.Tilde = Some op.Complement
 operator_of _ = None
 
+-- the name of an operator behind the word `operator`, at the place of its first sign
 pub data OperatorText : Tokens → Operator → Span → Tokens → Type 0 where
   one : {c : Sign} {o : Operator} {a : Span} {rest : Tokens} → operator_of c ≡ Some o → OperatorText (sign c a ∷ rest) o a rest
   get : {a b c : Span} {rest : Tokens} → OperatorText (sign s.BracketOpen a ∷ sign s.BracketClose b ∷ sign s.ParenOpen c ∷ rest) op.Get a (sign s.ParenOpen c ∷ rest)
@@ -114,19 +121,23 @@ takes op.Complement n = n == 0
 takes op.Subtract n = n == 0 || n == 1
 takes _ n = n == 1
 
+-- what begins a field: whether it is final, or None for another word
 abbrev pub final_or_var : Keyword → Option Bool
 final_or_var k.Final = Some true
 final_or_var k.Var = Some false
 final_or_var k.Dynamic = Some false
 final_or_var _ = None
 
+-- `extends` and a name, or nothing
 pub data Parent : Tokens → Option Name → Tokens → Type 0 where
   none : {ts : Tokens} → Parent ts None ts
   some : {n : List ℕ} {a b : Span} {rest : Tokens} → Parent (keyword k.Extends a ∷ token (kind.Name n) b ∷ rest) (Some (named n b)) rest
 
+-- a name behind a comma
 pub data CommaName : Tokens → Name → Tokens → Type 0 where
   name : {n : List ℕ} {a b : Span} {rest : Tokens} → CommaName (sign s.Comma a ∷ token (kind.Name n) b ∷ rest) (named n b) rest
 
+-- `implements` and names, or nothing
 pub data Interfaces : Tokens → List Name → Tokens → Type 0 where
   none : {ts : Tokens} → Interfaces ts [] ts
   some : {n : List ℕ} {a b : Span} {xs : List Name} {ts rest : Tokens} → Many CommaName ts xs rest → Interfaces (keyword k.Implements a ∷ token (kind.Name n) b ∷ ts) (named n b ∷ xs) rest
@@ -138,9 +149,11 @@ pub data Marked {A : Type 0} (R : Reading A) : Tokens → A → Tokens → Type 
 -- ---- bodies
 
 module _ (Inner : Reading Sta) (Whole : Reading Exp) where
+  -- statements in braces
   pub data Block : Tokens → Stas → Tokens → Type 0 where
     block : {a b : Span} {xs : List Sta} {ts rest : Tokens} → Many Inner ts xs (sign s.BraceClose b ∷ rest) → Block (sign s.BraceOpen a ∷ ts) (stas xs) rest
 
+  -- an arrow with its `;`, or a block
   pub data BodyText : Tokens → Body → Tokens → Type 0 where
     arrow : {a b : Span} {x : Exp} {ts rest : Tokens} → Whole ts x (sign s.Semicolon b ∷ rest) → BodyText (sign s.Arrow a ∷ ts) (tree.arrow x) rest
     code : {b : Stas} {ts rest : Tokens} → Block ts b rest → BodyText ts (tree.code b) rest
@@ -150,6 +163,7 @@ module _ (Inner : Reading Sta) (Whole : Reading Exp) where
     none : {a : Span} {rest : Tokens} → SomeBody (sign s.Semicolon a ∷ rest) None rest
     some : {b : Body} {ts rest : Tokens} → BodyText ts b rest → SomeBody ts (Some b) rest
 
+  -- a block or a `;`
   pub data SomeBlock : Tokens → Option Stas → Tokens → Type 0 where
     none : {a : Span} {rest : Tokens} → SomeBlock (sign s.Semicolon a ∷ rest) None rest
     some : {b : Stas} {ts rest : Tokens} → Block ts b rest → SomeBlock ts (Some b) rest
@@ -192,6 +206,7 @@ module _ (Inner : Reading Sta) (Whole : Reading Exp) where
     function : {e r : Bool} {n : List ℕ} {a b : Span} {ps : List Param} {y : Body} {ts us vs rest : Tokens} → Ret ts r (token (kind.Name n) a ∷ sign s.ParenOpen b ∷ us)
         → Params false us ps vs → BodyText vs y rest → Declared e ts (tree.a_function (function_of e (named n a) ps y)) rest
 
+  -- a declaration behind any number of metas
   pub data TopText : Tokens → Top → Tokens → Type 0 where
     top : {bs : List Bool} {x : Top} {ts us rest : Tokens} → Many Meta ts bs us → Declared (any bs) us x rest → TopText ts x rest
 

@@ -17,13 +17,16 @@ use Rattle.dart_syntax.specs.Syntax.{Exp, Selector, Sta, exps, pieces, links, se
 use Rattle.dart_syntax.specs.Words.{Tokens, token, sign, keyword}
 use Rattle.dart_syntax.specs.Operators.{named, unary_of, step_of, assignment_of, binary_of, level, first_kind, may_precede}
 
+-- a rule: which trees of a kind stand at the front of a list of tokens, and what follows
 abbrev pub Reading : Type 0 → Type 1
 Reading A = Tokens → A → Tokens → Type 0
 
+-- a selector that may be assigned to: a call may not
 abbrev pub written : Selector → Bool
 written (tree.send n xs) = false
 written _ = true
 
+-- whether the last of some selectors may be assigned to
 abbrev pub last_is_written : tree.Selectors → Bool
 last_is_written tree.no_selector = false
 last_is_written (tree.select x tree.no_selector) = written x
@@ -49,6 +52,7 @@ module _ (Whole : Reading Exp) where
     comma : {a b : Span} {rest : Tokens} → More close (sign s.Comma a ∷ sign close b ∷ rest) [] rest
     more : {at : Span} {x : Exp} {xs : List Exp} {ts mid rest : Tokens} → Whole ts x mid → More close mid xs rest → More close (sign s.Comma at ∷ ts) (x ∷ xs) rest
 
+  -- arguments or elements, up to and with the closing sign
   pub data Args (close : Sign) : Tokens → List Exp → Tokens → Type 0 where
     empty : {at : Span} {rest : Tokens} → Args close (sign close at ∷ rest) [] rest
     some : {x : Exp} {xs : List Exp} {ts mid rest : Tokens} → Whole ts x mid → More close mid xs rest → Args close ts (x ∷ xs) rest
@@ -58,6 +62,7 @@ module _ (Whole : Reading Exp) where
     close : {u : List ℕ} {at : Span} {x : Exp} {ts rest : Tokens} → Whole ts x (token (kind.StrClose u) at ∷ rest) → Pieces ts (a_piece x u at ∷ []) rest
     mid : {u : List ℕ} {at : Span} {x : Exp} {xs : List (Piece Exp)} {ts us rest : Tokens} → Whole ts x (token (kind.StrMid u) at ∷ us) → Pieces us xs rest → Pieces ts (a_piece x u at ∷ xs) rest
 
+  -- an expression that selectors may follow
   pub data Primary : Tokens → Exp → Tokens → Type 0 where
     null : {at : Span} {rest : Tokens} → Primary (keyword k.Null at ∷ rest) (tree.null at) rest
     yes : {at : Span} {rest : Tokens} → Primary (keyword k.True at ∷ rest) (tree.bool true at) rest
@@ -73,11 +78,13 @@ module _ (Whole : Reading Exp) where
     paren : {a b : Span} {x : Exp} {ts rest : Tokens} → Whole ts x (sign s.ParenClose b ∷ rest) → Primary (sign s.ParenOpen a ∷ ts) (tree.paren x) rest
     list : {at : Span} {xs : List Exp} {ts rest : Tokens} → Args s.BracketClose ts xs rest → Primary (sign s.BracketOpen at ∷ ts) (tree.list at (exps xs)) rest
 
+  -- one selector
   pub data Selects : Tokens → Selector → Tokens → Type 0 where
     member : {n : List ℕ} {a b : Span} {rest : Tokens} → Selects (sign s.Dot a ∷ token (kind.Name n) b ∷ rest) (tree.get (named n b)) rest
     invoke : {n : List ℕ} {a b c : Span} {xs : List Exp} {ts rest : Tokens} → Args s.ParenClose ts xs rest → Selects (sign s.Dot a ∷ token (kind.Name n) b ∷ sign s.ParenOpen c ∷ ts) (tree.send (named n b) (exps xs)) rest
     index : {a b : Span} {x : Exp} {ts rest : Tokens} → Whole ts x (sign s.BracketClose b ∷ rest) → Selects (sign s.BracketOpen a ∷ ts) (tree.index a x) rest
 
+  -- a primary expression, alone or with selectors
   pub data Postfix : Tokens → Exp → Tokens → Type 0 where
     primary : {x : Exp} {ts rest : Tokens} → Primary ts x rest → Postfix ts x rest
     selected : {x : Exp} {y : Selector} {ys : List Selector} {ts mid rest : Tokens} → Primary ts x mid → Many Selects mid (y ∷ ys) rest → Postfix ts (tree.postfix x (selectors (y ∷ ys))) rest
@@ -111,10 +118,12 @@ pub data Level (p : ℕ) (R : Reading Exp) : Tokens → Exp → Tokens → Type 
   is_not : {n : List ℕ} {x : Exp} {a b c : Span} {ts rest : Tokens} → p ≡ 7 → R ts x (keyword k.Is a ∷ sign s.Not b ∷ token (kind.Name n) c ∷ rest) → Level p R ts (tree.is x true a (named n c)) rest
 
 module _ (Whole Operand : Reading Exp) where
+  -- the binary operators of the levels up to p
   abbrev pub Chain : ℕ → Reading Exp
   Chain zero = Unary Whole Operand
   Chain (suc p) = Level (suc p) (Chain p)
 
+  -- a chain of all levels, alone or as the condition of `? :`
   pub data Cond : Tokens → Exp → Tokens → Type 0 where
     one : {x : Exp} {ts rest : Tokens} → Chain 10 ts x rest → Cond ts x rest
     cond : {a b : Span} {x y z : Exp} {ts us vs rest : Tokens} → Chain 10 ts x (sign s.Question a ∷ us) → Whole us y (sign s.Colon b ∷ vs) → Whole vs z rest → Cond ts (tree.choice x y z) rest
@@ -124,6 +133,7 @@ module _ (Whole Operand : Reading Exp) where
     cond : {x : Exp} {ts rest : Tokens} → Cond ts x rest → Expression ts x rest
     assign : {c : Sign} {op : Assignment} {at : Span} {x y : Exp} {ts mid rest : Tokens} → Postfix Whole ts x (sign c at ∷ mid) → is_target x ≡ true → assignment_of c ≡ Some op → Whole mid y rest → Expression ts (tree.assign x op at y) rest
 
+-- At level 0 no expression stands.
 pub data Nothing : Tokens → Exp → Tokens → Type 0 where
 
 -- expressions of at most so many levels, and what stands under a sign within them
@@ -195,6 +205,7 @@ module _ (Inner : Reading Sta) (Whole : Reading Exp) where
     continue : {a b : Span} {rest : Tokens} → Statement (keyword k.Continue a ∷ sign s.Semicolon b ∷ rest) (tree.continue a) rest
     return : {at : Span} {v : Option Exp} {ts rest : Tokens} → Valued Whole ts v rest → Statement (keyword k.Return at ∷ ts) (tree.return at v) rest
 
+-- At level 0 no statement stands.
 pub data NoStmt : Tokens → Sta → Tokens → Type 0 where
 
 -- statements of at most so many levels

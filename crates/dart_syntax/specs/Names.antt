@@ -65,6 +65,7 @@ reserved_words =
 unfoldable pub keyword_of : Text → Option Keyword
 keyword_of = lookup keywords
 
+-- a word that no source may have
 unfoldable pub is_reserved : Text → Bool
 is_reserved word = list_any (λ r. bytes_eq r word) reserved_words
 

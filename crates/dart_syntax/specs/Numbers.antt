@@ -13,6 +13,7 @@ abbrev pub value_from : ℕ → ℕ → Text → ℕ
 value_from base v [] = v
 value_from base v (b ∷ bs) = value_from base (base * v + hex_value b) bs
 
+-- what digits are worth in base 10 or 16, the highest digit first
 abbrev pub value : ℕ → Text → ℕ
 value base ds = value_from base 0 ds
 

@@ -16,15 +16,18 @@ use Rattle.dart_syntax.specs.declared.tree.Step.TheVariants as step
 use Rattle.dart_syntax.specs.declared.tree.Assignment.{Assignment}
 use Rattle.dart_syntax.specs.declared.tree.Assignment.TheVariants as assignment
 
+-- a name as it stands at a place
 abbrev pub named : List ℕ → Span → Name
 named text at = record { text = text; span = at }
 
+-- the operator that a sign is before an operand
 abbrev pub unary_of : Sign → Option Unary
 unary_of s.Minus = Some unary.Minus
 unary_of s.Not = Some unary.Not
 unary_of s.Tilde = Some unary.Complement
 unary_of _ = None
 
+-- whether the operator is the `-`, under which the least integer may stand
 abbrev pub is_minus : Unary → Bool
 is_minus unary.Minus = true
 is_minus unary.Not = false
@@ -40,11 +43,13 @@ abbrev pub may_precede : Unary → Option TokenKind → Bool
 may_precede op (Some kind.MinInt) = is_minus op
 may_precede op _ = true
 
+-- the step that a sign is, before a target or behind it
 abbrev pub step_of : Sign → Option Step
 step_of s.Increment = Some step.Increment
 step_of s.Decrement = Some step.Decrement
 step_of _ = None
 
+-- the assignment that a sign is, with its operator
 abbrev pub assignment_of : Sign → Option Assignment
 assignment_of s.Assign = Some assignment.Plain
 assignment_of s.PlusAssign = Some assignment.Add
@@ -60,6 +65,7 @@ assignment_of s.ShiftRightAssign = Some assignment.ShiftRight
 assignment_of s.ShiftUnsignedAssign = Some assignment.ShiftUnsigned
 assignment_of _ = None
 
+-- the operator that a sign is between two operands
 abbrev pub binary_of : Sign → Option Binary
 binary_of s.Or = Some binary.Or
 binary_of s.And = Some binary.And

@@ -39,20 +39,24 @@ is_plain u = nat_le 32 u && nat_le u 126 && not (u == 36) && not (u == 39) && no
 abbrev pub unit_text : ℕ → List ℕ
 unit_text u = if is_plain u then u ∷ [] else 92 ∷ 117 ∷ digit (u / 4096 % 16) ∷ digit (u / 256 % 16) ∷ digit (u / 16 % 16) ∷ digit (u % 16) ∷ []
 
+-- the units of a string, without its quotes
 abbrev pub units_text : List ℕ → List ℕ
 units_text = flat_map unit_text
 
 -- ---- operators
 
+-- the sign before its operand
 abbrev pub unary_text : Unary → List ℕ
 unary_text unary_.Minus = codes "-"
 unary_text unary_.Not = codes "!"
 unary_text unary_.Complement = codes "~"
 
+-- the sign that adds or takes one
 abbrev pub step_text : Step → List ℕ
 step_text step_.Increment = codes "++"
 step_text step_.Decrement = codes "--"
 
+-- the sign between two operands
 abbrev pub binary_text : Binary → List ℕ
 binary_text binary_.Or = codes "||"
 binary_text binary_.And = codes "&&"
@@ -74,6 +78,7 @@ binary_text binary_.Multiply = codes "*"
 binary_text binary_.Divide = codes "~/"
 binary_text binary_.Remainder = codes "%"
 
+-- the sign of an assignment, alone or with an operator
 abbrev pub assignment_text : Assignment → List ℕ
 assignment_text assignment_.Plain = codes "="
 assignment_text assignment_.Add = codes "+="
@@ -149,6 +154,7 @@ abbrev mutual
   exps_text tree.no_more = []
   exps_text (tree.also x more) = exp_text x ++ more_text more
 
+  -- each with a comma before it
   pub more_text : Exps → List ℕ
   more_text tree.no_more = []
   more_text (tree.also x more) = word (codes ",") ++ (exp_text x ++ more_text more)
@@ -172,14 +178,17 @@ abbrev mutual
 
 -- ---- statements
 
+-- an expression that may be missing: the condition of a `for`, or what `return` answers
 abbrev pub option_text : Option Exp → List ℕ
 option_text None = []
 option_text (Some x) = exp_text x
 
+-- the first value of a variable, if it has one
 abbrev pub value_text : Option Exp → List ℕ
 value_text None = []
 value_text (Some x) = word (codes "=") ++ exp_text x
 
+-- the word that begins a variable
 abbrev pub variable_word : Bool → List ℕ
 variable_word true = word (codes "final")
 variable_word false = word (codes "var")
@@ -188,6 +197,7 @@ variable_word false = word (codes "var")
 abbrev pub local_text : Local → List ℕ
 local_text l = variable_word l.is_final ++ (word l.name.text ++ (value_text l.value ++ word (codes ";")))
 
+-- the first part of a `for`, with its `;`
 abbrev pub first_text : First → List ℕ
 first_text tree.nothing = word (codes ";")
 first_text (tree.local_first l) = local_text l
@@ -239,17 +249,21 @@ param_text p = (if p.is_final then word (codes "final") else []) ++ ((if p.is_fi
 abbrev pub params_text : List Param → List ℕ
 params_text ps = word (codes "(") ++ (listed param_text ps ++ word (codes ")"))
 
+-- in braces
 abbrev pub block_text : Stas → List ℕ
 block_text all = word (codes "{") ++ (stas_text all ++ word (codes "}"))
 
+-- an arrow with its `;`, or a block
 abbrev pub body_text : Body → List ℕ
 body_text (tree.arrow x) = word (codes "=>") ++ (exp_text x ++ word (codes ";"))
 body_text (tree.code all) = block_text all
 
+-- a member's body, or `;` where it has none
 abbrev pub some_body_text : Option Body → List ℕ
 some_body_text None = word (codes ";")
 some_body_text (Some b) = body_text b
 
+-- a constructor's block, or `;` where it has none
 abbrev pub some_block_text : Option Stas → List ℕ
 some_block_text None = word (codes ";")
 some_block_text (Some all) = block_text all
@@ -268,14 +282,17 @@ member_text class (tree.setter name p b) = word (codes "set") ++ (word name.text
 member_text class (tree.operator op at ps b) = word (codes "operator") ++ (operator_text op ++ (params_text ps ++ some_body_text b))
 member_text class (tree.constructor name ps args b) = word name.text ++ (params_text ps ++ (passed_text args ++ some_block_text b))
 
+-- what a class's head says of its superclass
 abbrev pub parent_text : Option Name → List ℕ
 parent_text None = []
 parent_text (Some name) = word (codes "extends") ++ word name.text
 
+-- what a class's head says of its interfaces
 abbrev pub interfaces_text : List Name → List ℕ
 interfaces_text [] = []
 interfaces_text (x ∷ xs) = word (codes "implements") ++ listed name_text (x ∷ xs)
 
+-- a class with its members in order
 abbrev pub class_text : ClassDecl → List ℕ
 class_text c = (if c.is_abstract then word (codes "abstract") else []) ++ (word (codes "class") ++ (word c.name.text ++ (parent_text c.parent ++ (interfaces_text c.interfaces
     ++ (word (codes "{") ++ (flat_map (member_text c.name.text) c.members ++ word (codes "}")))))))
@@ -284,9 +301,11 @@ class_text c = (if c.is_abstract then word (codes "abstract") else []) ++ (word 
 abbrev pub entry_text : List ℕ
 entry_text = word (codes "@") ++ (word (codes "pragma") ++ (word (codes "(") ++ (word (codes "'vm:entry-point'") ++ word (codes ")"))))
 
+-- a function, behind its mark where it is an entry
 abbrev pub function_text : Function → List ℕ
 function_text f = (if f.is_entry then entry_text else []) ++ (word f.name.text ++ (params_text f.params ++ body_text f.body))
 
+-- a declaration, whatever it declares
 abbrev pub top_text : Top → List ℕ
 top_text (tree.a_class c) = class_text c
 top_text (tree.a_function f) = function_text f
@@ -296,5 +315,6 @@ top_text (tree.a_variable l) = local_text l
 abbrev pub line : List ℕ → List ℕ
 line words = take (length words - 1) words ++ 10 ∷ []
 
+-- the whole tree as one line
 abbrev pub text : Tree → List ℕ
 text t = line (flat_map top_text t.tops)

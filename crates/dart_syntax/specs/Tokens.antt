@@ -33,12 +33,15 @@ fits_line (Some l) b = is_in byte.InLine b
 abbrev pub is_blank : Option ℕ → ℕ → Bool
 is_blank o b = is_in byte.Space b || (is_in byte.LineEnd b && fits_line o b)
 
+-- a single or a double quote
 abbrev pub is_quote : ℕ → Bool
 is_quote b = b == 39 || b == 34
 
+-- the letter behind the 0 of a hexadecimal integer
 abbrev pub is_x : ℕ → Bool
 is_x b = b == 120 || b == 88
 
+-- whether such a letter comes next
 abbrev pub starts_x : Text → Bool
 starts_x [] = false
 starts_x (b ∷ bs) = is_x b

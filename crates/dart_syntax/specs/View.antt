@@ -26,11 +26,13 @@ use Rattle.dart_syntax.specs.declared.tree.Tree.{Tree}
 use Rattle.dart_syntax.specs.Syntax as tree
 use Rattle.dart_syntax.specs.Syntax.{Exp, Sta, Exps, Stas, exps, pieces, links, selectors, stas, a_piece, a_link}
 
+-- one selector, where the expressions in it are read already
 abbrev pub selector_step : Selector-F Exp tree.Selector → tree.Selector
 selector_step (Selector-F.Member name) = tree.get name
 selector_step (Selector-F.Invoke name args) = tree.send name (exps args)
 selector_step (Selector-F.Index span e) = tree.index span e
 
+-- one expression, where those inside it are read already; `Cond` is `c ? a : b`
 abbrev pub exp_step : Expr-F Exp tree.Selector → Exp
 exp_step (Expr-F.Null span) = tree.null span
 exp_step (Expr-F.Bool b span) = tree.bool b span
@@ -54,9 +56,11 @@ exp_step (Expr-F.Cond c a b) = tree.choice c a b
 exp_step (Expr-F.Assign to op span e) = tree.assign to op span e
 exp_step (Expr-F.Throw span e) = tree.throw span e
 
+-- the expression that an `Expr` of src/ stands for
 abbrev pub exp : Expr → Exp
 exp = fold-Expr Exp tree.Selector exp_step selector_step
 
+-- the selector that one of src/ stands for
 abbrev pub selector : Selector → tree.Selector
 selector = fold-Selector Exp tree.Selector exp_step selector_step
 
@@ -74,10 +78,12 @@ first_part first.Nothing = tree.nothing
 first_part (first.Local l) = tree.local_first (local l)
 first_part (first.Run e) = tree.run_first (exp e)
 
+-- an `if`, with an `else` or without
 abbrev pub branch : Exp → Sta → Option Sta → Sta
 branch c a None = tree.when c a
 branch c a (Some b) = tree.when_else c a b
 
+-- one statement, where those inside it are read already
 abbrev pub sta_step : Stmt-F Sta → Sta
 sta_step (Stmt-F.Block all) = tree.block (stas all)
 sta_step (Stmt-F.Local l) = tree.local (local l)
@@ -91,11 +97,13 @@ sta_step (Stmt-F.Break span) = tree.break span
 sta_step (Stmt-F.Continue span) = tree.continue span
 sta_step (Stmt-F.Return span e) = tree.return span (option_map exp e)
 
+-- the statement that a `Stmt` of src/ stands for
 abbrev pub sta : Stmt → Sta
 sta = fold-Stmt Sta sta_step
 
 -- ---- declarations
 
+-- the arguments that a constructor passes on
 abbrev pub all_exps : List Expr → Exps
 all_exps xs = exps (map exp xs)
 
@@ -131,5 +139,6 @@ top (top_.Class c) = tree.a_class (class c)
 top (top_.Function f) = tree.a_function (function f)
 top (top_.Variable v) = tree.a_variable (local v)
 
+-- the tree that the parser's answer stands for
 abbrev pub unit : Tree → tree.Tree
 unit t = tree.tree_of (map top t.tops)

@@ -7,9 +7,11 @@ use Rattle.dart_syntax.specs.declared.token.TokenKind.TheVariants as kind
 use Rattle.dart_syntax.specs.declared.token.Sign.{Sign}
 use Rattle.dart_syntax.specs.declared.token.Keyword.{Keyword}
 
+-- the tokens of a text, or those that are left of it
 abbrev pub Tokens : Type 0
 Tokens = List Token
 
+-- a token of this kind at a place
 abbrev pub token : TokenKind → Span → Token
 token k at = record { kind = k; span = at }
 

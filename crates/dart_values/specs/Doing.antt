@@ -32,10 +32,12 @@ Makes given (Ok a) = given ≡ Ok a
 Makes given (Err (fault.Trap t)) = given ≡ Err t
 Makes given (Err fault.NoMemory) = Unit {0}
 
+-- the same for a part that is only looked at, which needs no memory
 abbrev pub Finds : {A : Type 0} → Result A Trap → Result (Bor A) Trap → Type 0
 Finds given (Ok a) = given ≡ Ok a.now
 Finds given (Err t) = given ≡ Err t
 
+-- the same for the elements of a list, as they are in the heap
 abbrev pub FindsItems : Store → Result (List m.Value) Trap → Result (Bor (List Value)) Trap → Type 0
 FindsItems s given (Ok items) = given ≡ Ok (values_of s items.now)
 FindsItems s given (Err t) = given ≡ Err t

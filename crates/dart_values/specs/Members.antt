@@ -12,6 +12,7 @@ use Rattle.dart_values.specs.declared.member.ListMember.{ListMember}
 use Rattle.dart_values.specs.declared.member.ListMember.TheVariants as list
 use Rattle.dart_values.specs.declared.member.InvocationMember.TheVariants as invocation
 
+-- what each member is, by its number from 0 to 48
 abbrev pub members : List Member
 members =
     Object object.Equals ∷ Object object.ToString ∷ Object object.NoSuchMethod
@@ -30,6 +31,7 @@ members =
 
 -- How many arguments each takes.
 
+-- of a member of String
 abbrev pub string_arity : StringMember → ℕ
 string_arity string.Concat = 1
 string_arity string.Equals = 1
@@ -40,6 +42,7 @@ string_arity string.ToString = 0
 string_arity string.CodeUnitAt = 1
 string_arity string.Substring = 2
 
+-- of List
 abbrev pub list_arity : ListMember → ℕ
 list_arity list.ElementAt = 1
 list_arity list.SetElement = 2
@@ -48,6 +51,7 @@ list_arity list.IsEmpty = 0
 list_arity list.Add = 1
 list_arity list.RemoveLast = 0
 
+-- of a member of any class
 abbrev pub arity : Member → ℕ
 arity (Object object.Equals) = 1
 arity (Object object.ToString) = 0
@@ -71,5 +75,6 @@ takes_no_memory (IntWith op) = true
 takes_no_memory (Int m) = true
 takes_no_memory _ = false
 
+-- built-in member number n gives its value without any memory
 abbrev pub is_free : ℕ → Bool
 is_free n = unwrap_or (option_map takes_no_memory (slice_get members n)) false

@@ -33,13 +33,16 @@ same_value (text x) (text y) = bytes_eq x y
 same_value (at x) (at y) = nat_eq x y
 same_value _ _ = false
 
+-- the `toString` of an object whose class has none of its own
 abbrev pub instance_text : Text → Text
 instance_text name = codes "Instance of '" ++ name ++ codes "'"
 
+-- what stands at the address that a value is
 abbrev pub thing_at : Heap → Value → Option Thing
 thing_at heap (at a) = slice_get heap a
 thing_at heap _ = None
 
+-- what Object's `noSuchMethod` ends in: it names the member that was called, and takes nothing but an Invocation
 abbrev pub missing : Option Thing → Trap
 missing (Some (invocation name arguments kind)) = trap.NoSuchMethod name
 missing _ = trap.TypeFault
@@ -52,12 +55,14 @@ object_member names o.NoSuchMethod heap self v = traps (missing (thing_at heap v
 
 -- bool
 
+-- a bool as it is written
 abbrev pub bool_text : Bool → Text
 bool_text true = codes "true"
 bool_text false = codes "false"
 
 -- String
 
+-- an integer as an index below n, or a RangeFault
 abbrev pub place_in : ℕ → ℤ → Result ℕ Trap
 place_in n (pos i) = if nat_lt i n then Ok i else Err trap.RangeFault
 place_in n (negsuc i) = Err trap.RangeFault
@@ -66,6 +71,7 @@ place_in n (negsuc i) = Err trap.RangeFault
 abbrev pub index_in : ℕ → Value → Result ℕ Trap
 index_in n v = and_then (need_int v) (place_in n)
 
+-- the value is a string of these units
 abbrev pub is_text : Text → Value → Bool
 is_text units (text u) = bytes_eq units u
 is_text units _ = false
@@ -75,10 +81,12 @@ abbrev pub cut : Text → ℤ → ℤ → Result Text Trap
 cut units (pos a) (pos b) = if nat_le a b && nat_le b (length units) then Ok (take (b - a) (drop a units)) else Err trap.RangeFault
 cut units _ _ = Err trap.RangeFault
 
+-- the value of a string that was found, or the trap
 abbrev pub of_text : Result Text Trap → Result Value Trap
 of_text (Ok units) = Ok (text units)
 of_text (Err t) = Err t
 
+-- what a member of String gives, whose units these are
 abbrev pub string_member : StringMember → Text → Value → Value → Result Value Trap
 string_member s.Concat units v w = and_then (need_text v) (λ u. Ok (text (units ++ u)))
 string_member s.Equals units v w = Ok (bool (is_text units v))
@@ -91,13 +99,16 @@ string_member s.Substring units v w = and_then (need_int v) (λ a. and_then (nee
 
 -- List
 
+-- the elements of a list, or a TypeFault
 abbrev pub list_items : Option Thing → Result (List Value) Trap
 list_items (Some (list items)) = Ok items
 list_items _ = Err trap.TypeFault
 
+-- the elements of the list that a value is, or a TypeFault
 abbrev pub need_list : Heap → Value → Result (List Value) Trap
 need_list heap v = list_items (thing_at heap v)
 
+-- the address of an object, a list or an Invocation
 abbrev pub address : Value → ℕ
 address (at a) = a
 address _ = 0
@@ -106,14 +117,17 @@ address _ = 0
 abbrev pub with_items : Heap → Value → List Value → Heap
 with_items heap self items = slice_set heap (address self) (list items)
 
+-- element k, from 0
 abbrev pub item : List Value → ℕ → Value
 item items k = slice_index_or items k null
 
+-- what `removeLast` gives: the list without its last element, and that element
 abbrev pub without_last : Heap → Value → List Value → Given
 without_last heap self items =
     if nat_eq (length items) 0 then traps trap.RangeFault
     else gives (with_items heap self (take (length items - 1) items)) (item items (length items - 1))
 
+-- what a member of List gives, where `self` has these elements
 abbrev pub list_member : ListMember → Heap → Value → List Value → Value → Value → Given
 list_member l.ElementAt heap self items v w = given_from (index_in (length items) v) (λ k. gives heap (item items k))
 list_member l.SetElement heap self items v w = given_from (index_in (length items) v) (λ k. gives (with_items heap self (slice_set items k w)) null)
@@ -124,6 +138,7 @@ list_member l.RemoveLast heap self items v w = without_last heap self items
 
 -- Invocation
 
+-- what a member of Invocation gives, from what the Invocation holds
 abbrev pub invocation_member : InvocationMember → Text → Value → SelectorKind → Value
 invocation_member i.MemberName name arguments kind = text name
 invocation_member i.PositionalArguments name arguments kind = arguments
@@ -131,12 +146,14 @@ invocation_member i.IsMethod name arguments kind = bool (same_kind kind Call)
 invocation_member i.IsGetter name arguments kind = bool (same_kind kind Get)
 invocation_member i.IsSetter name arguments kind = bool (same_kind kind Set)
 
+-- the same, where `self` has to be an Invocation
 abbrev pub of_invocation : InvocationMember → Option Thing → Result Value Trap
 of_invocation m (Some (invocation name arguments kind)) = Ok (invocation_member m name arguments kind)
 of_invocation m _ = Err trap.TypeFault
 
 -- All members. What a list's text is takes calls, and is not said here.
 
+-- what a member gives, by its class; `names` gives the name of a class
 abbrev pub member_gives : (ℕ → Text) → Member → Heap → Value → Value → Value → Given
 member_gives names (of.Object m) heap self v w = object_member names m heap self v
 member_gives names of.NullToString heap self v w = gives heap (text (codes "null"))

@@ -17,9 +17,11 @@ bool_with b.And x y = x && y
 bool_with b.Or x y = x || y
 bool_with b.Xor x y = if x then not y else y
 
+-- two integers are equal
 abbrev pub eq_int : ℤ → ℤ → Bool
 eq_int x y = int_le x y && int_le y x
 
+-- an integer as 64 bits with a sign
 abbrev pub wrap : ℤ → ℤ
 wrap = int_wrap w64
 
@@ -31,10 +33,12 @@ quotient x y = if eq_int y (pos 0) then Err trap.DivideByZero else Ok (wrap (int
 abbrev pub remainder : ℤ → ℤ → Result ℤ Trap
 remainder x y = if eq_int y (pos 0) then Err trap.DivideByZero else Ok (int_rem_euclid x y)
 
+-- the count of a shift; a negative one is a trap
 abbrev pub count_of : ℤ → Result ℕ Trap
 count_of (pos n) = Ok n
 count_of (negsuc n) = Err trap.NegativeShift
 
+-- zeros come in, and from 64 on nothing is left
 abbrev pub shift_left : ℤ → ℕ → ℤ
 shift_left x n = if nat_lt n 64 then int_shl w64 x n else pos 0
 
@@ -46,6 +50,7 @@ shift_right x n = if nat_lt n 64 then int_shr x n else (if int_lt x (pos 0) then
 abbrev pub shift_unsigned : ℤ → ℕ → ℤ
 shift_unsigned x n = if nat_lt n 64 then cast_signed w64 (cast_unsigned w64 x / 2 ^ n) else pos 0
 
+-- the value of an integer that was found, or the trap
 abbrev pub number : Result ℤ Trap → Result Value Trap
 number (Ok z) = Ok (num z)
 number (Err t) = Err t

@@ -5,10 +5,12 @@ use Rattle.program.specs.declared.numbered.Class.{Class}
 use Rattle.dart_values.specs.Values.{Text, Value, null, bool, num, text, at, Thing, object, list, Heap, class_of}
 use Rattle.dart_values.specs.Natives.{thing_at, address, bool_text, instance_text}
 
+-- the units of a string; other values have none
 abbrev pub text_in : Value → Option Text
 text_in (text units) = Some units
 text_in _ = None
 
+-- the fields of an object, in their order
 abbrev pub object_fields : Option Thing → List Value
 object_fields (Some (object class fields)) = fields
 object_fields _ = []
@@ -17,6 +19,7 @@ object_fields _ = []
 abbrev pub field_of : Heap → Value → ℕ → Value
 field_of heap v k = slice_index_or (object_fields (thing_at heap v)) k null
 
+-- field k of the object at address a is w now
 abbrev pub put_field : Option Thing → Heap → ℕ → ℕ → Value → Heap
 put_field (Some (object class fields)) heap a k w = slice_set heap a (object class (slice_set fields k w))
 put_field _ heap a k w = heap
@@ -25,6 +28,7 @@ put_field _ heap a k w = heap
 abbrev pub with_field : Heap → Value → ℕ → Value → Heap
 with_field heap v k w = put_field (thing_at heap v) heap (address v) k w
 
+-- the elements of a list
 abbrev pub items_in : Option Thing → List Value
 items_in (Some (list items)) = items
 items_in _ = []

@@ -9,9 +9,11 @@ use Rattle.dart_syntax.specs.Bytes.{Text}
 use Rattle.dart_meaning.specs.Classes.{first_some, if_so}
 use Rattle.declaration_rules.specs.Seen.{class_of}
 
+-- the class that a name has, if it has one
 abbrev pub Find : Type 0
 Find = Text → Option ClassDecl
 
+-- the classes that a map of src/ holds
 abbrev pub found_in : {S : Type 0} → HashMap (Bor Text) (Bor src.ClassDecl) S → Find
 found_in m q = option_map class_of (get_by (λ k. bytes_eq q k.now) m)
 

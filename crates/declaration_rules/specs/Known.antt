@@ -37,8 +37,10 @@ abbrev pub breaks : SuperRule → (Text → Bool) → (Text → Bool) → Name �
 breaks rule.Unknown known built_in n = not (known n.text || built_in n.text)
 breaks rule.BuiltIn known built_in n = built_in n.text && not (bytes_eq n.text object)
 
+-- the place of a name that breaks the rule
 abbrev pub breaks_at : SuperRule → (Text → Bool) → (Text → Bool) → Name → Fault
 breaks_at rule known built_in n = at_if (breaks rule known built_in n) n.span
 
+-- the first such place in a class's head
 abbrev pub breaks_in : SuperRule → (Text → Bool) → (Text → Bool) → ClassDecl → Fault
 breaks_in rule known built_in c = first_in (breaks_at rule known built_in) (supers c)

@@ -17,6 +17,7 @@ use Rattle.static_rules.specs.Repeats.{Before, with_name}
 abbrev pub has : {S : Type 0} → HashSet (Bor Text) S → Before
 has seen q = contains_by (λ k. bytes_eq q k.now) seen
 
+-- a name of the text, as src/ has it
 abbrev pub name_of : Named → Name
 name_of n = named n.text.now n.span
 
@@ -25,6 +26,7 @@ abbrev pub again : Before → Option Name → Fault
 again seen None = None
 again seen (Some n) = at_if (seen n.text) n.span
 
+-- one name more, if there is one
 abbrev pub with_option : Option Name → Before → Before
 with_option None seen q = seen q
 with_option (Some n) seen q = with_name n.text seen q

@@ -14,8 +14,10 @@ kind_of kind.OfMember = u.of_member
 kind_of kind.OfPassed = u.of_passed
 kind_of kind.OfConstructor = u.of_constructor
 
+-- a part of the tree, as src/ has it
 abbrev pub part_of : Part → u.Part
 part_of p = u.part (kind_of p.kind) (option_map class (option_copied p.class)) p.uses
 
+-- the parts that src/ has listed
 unfoldable pub found : Parts → List u.Part
 found parts = map part_of parts.list.items

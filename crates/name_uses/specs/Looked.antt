@@ -9,5 +9,6 @@ abbrev pub looked_class : Tree → Option ClassDecl → Option ClassDecl
 looked_class tree None = None
 looked_class tree (Some c) = class_named tree c.name.text
 
+-- the part with that class in place of its own
 abbrev pub looked : Tree → u.Part → u.Part
 looked tree p = u.part p.kind (looked_class tree p.class) p.uses

@@ -7,6 +7,7 @@ use Rattle.dart_syntax.specs.Bytes.{Text}
 use Rattle.name_uses.specs.declared.scope.Scope.{Scope}
 use Rattle.name_uses.specs.declared.scope.Before.{Before}
 
+-- what a name means, if it means anything
 abbrev pub Meanings : Type 0 → Type 0
 Meanings V = Text → Option V
 
@@ -17,6 +18,7 @@ nothing q = None
 abbrev pub with_meaning : {V : Type 0} → Text → Option V → Meanings V → Meanings V
 with_meaning n v m q = if bytes_eq n q then v else m q
 
+-- the meanings that a map of src/ holds
 unfoldable pub in_map : {V S : Type 0} → HashMap (Bor Text) V S → Meanings V
 in_map m q = get_by (λ k. bytes_eq q k.now) m
 

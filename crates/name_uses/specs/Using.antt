@@ -5,6 +5,7 @@ use Rattle.name_uses.specs.declared.list.Use.{Use}
 use Rattle.name_uses.specs.declared.list.Use.TheVariants as v
 use Rattle.dart_meaning.specs.Uses as u
 
+-- a use, as src/ has it
 abbrev pub used : Use → u.Use
 used (v.Reads n seen) = u.reads n.now seen
 used (v.Writes n seen) = u.writes n.now seen

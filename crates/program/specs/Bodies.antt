@@ -104,6 +104,7 @@ count (also e more) = suc (count more)
 
 -- What the types of src/ stand for.
 
+-- arguments, elements, or the last part of a `for`
 abbrev pub exps : List Exp → Exps
 exps [] = no_more
 exps (e ∷ more) = also e (exps more)
@@ -134,6 +135,7 @@ update (up.Super g m) = of_super g.0 m.0
 update (up.Member e g s) = of_member e g.0 s.0
 update (up.Element e i g s) = of_element e i g.0 s.0
 
+-- one expression, where those inside it are read already
 abbrev pub exp_step : Expression-F Exp → Exp
 exp_step (Expression-F.Constant k) = constant k
 exp_step Expression-F.This = this
@@ -159,6 +161,7 @@ exp_step (Expression-F.Throw e) = throw e
 abbrev pub exp : Expression → Exp
 exp = fold-Expression Exp exp_step
 
+-- the first part of a `for`
 abbrev pub first : declared_first.First → First
 first f.Nothing = no_first
 first (f.Declares e) = first_declares (exp e)
@@ -168,10 +171,12 @@ abbrev pub stas : List Sta → Stas
 stas [] = end_of
 stas (x ∷ more) = next x (stas more)
 
+-- an `if`, with an `else` or without
 abbrev pub if_else : Exp → Sta → Option Sta → Sta
 if_else c x None = when c x
 if_else c x (Some y) = when_else c x y
 
+-- one statement, where those inside it are read already
 abbrev pub sta_step : Statement-F Sta → Sta
 sta_step (Statement-F.Block all) = block (stas all)
 sta_step (Statement-F.Declare e) = declare (exp e)

@@ -33,9 +33,11 @@ list = 5
 abbrev pub invocation : ℕ
 invocation = 6
 
+-- a class without fields, and without a written constructor
 abbrev pub built_in_class : List ℕ → Option ClassId → Class
 built_in_class name parent = record { name = name; parent = parent; interfaces = []; is_abstract = false; fields = []; constructor = None }
 
+-- a built-in class directly below Object
 abbrev pub below_object : List ℕ → Class
 below_object name = built_in_class name (Some (record { 0 = object }))
 
@@ -49,6 +51,7 @@ built_in_classes =
 abbrev pub is_open : ℕ → Bool
 is_open c = nat_eq c object || nat_le 7 c
 
+-- a built-in member by its number, class, kind and name, with as many arguments as it takes
 abbrev pub built_in : ℕ → ℕ → SelectorKind → List ℕ → ℕ → Method
 built_in number owner role name count = record { owner = record { 0 = owner }; name = name; role = role; required = count; defaults = []; body = does.Native (record { 0 = number }) }
 
@@ -108,9 +111,11 @@ built_in_members =
 
 -- The one selector and the two sites of a program that has nothing else: `print` and a list's text call `toString`.
 
+-- a call of `toString`
 abbrev pub to_string : Selector
 to_string = record { kind = Call; name = codes "toString"; count = 0 }
 
+-- a site of the prelude, with the only selector
 abbrev pub to_string_at : SitePlace → Site
 to_string_at place = record { selector = record { 0 = 0 }; place = place }
 

@@ -6,6 +6,7 @@ use Rattle.std.specs.List.{list_any, list_all}
 abbrev pub Parents : Type 0
 Parents = List (Option ℕ)
 
+-- the class directly above one; Object has none
 abbrev pub parent_in : Parents → ℕ → Option ℕ
 parent_in up c = option_and_then (λ p. p) (slice_get up c)
 
@@ -19,6 +20,7 @@ chain_from (suc n) up (Some c) = c ∷ chain_from n up (parent_in up c)
 unfoldable pub chain : Parents → ℕ → List ℕ
 chain up c = chain_from (suc c) up (Some c)
 
+-- the same from a class that there need not be
 abbrev pub chain_of : Parents → Option ℕ → List ℕ
 chain_of up None = []
 chain_of up (Some c) = chain up c
@@ -36,6 +38,7 @@ abbrev pub follows : Parents → ℕ → Option ℕ → Bool
 follows up c None = nat_eq c 0
 follows up c (Some p) = nat_lt p c && is_above up p (c - 1)
 
+-- each class stands before those below it, and these follow it without a gap
 pub record IsPreorder (up : Parents) : Type 0 where
   pub some : 0 < length up
   pub each : (c : ℕ) → c < length up → IsTrue (follows up c (parent_in up c))
@@ -53,6 +56,7 @@ pub record IsLast (up : Parents) (c last : ℕ) : Type 0 where
 abbrev pub Supers : Type 0
 Supers = List (List ℕ)
 
+-- the numbers that class c names in its head
 abbrev pub supers_in : Supers → ℕ → List ℕ
 supers_in named c = unwrap_or (slice_get named c) []
 

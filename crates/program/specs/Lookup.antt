@@ -29,6 +29,7 @@ is_declared_by c kind name m = nat_eq m.owner.0 c && is_named kind name m
 abbrev pub declared : List Method → ℕ → SelectorKind → List ℕ → Option ℕ
 declared methods c kind name = position_from (is_declared_by c kind name) 0 methods
 
+-- a class's own member, or else one from above
 abbrev pub or_above : Option ℕ → Option ℕ → Option ℕ
 or_above (Some m) above = Some m
 or_above None above = above
@@ -42,6 +43,7 @@ first_declared methods kind name (c ∷ above) = or_above (declared methods c ki
 abbrev pub accepts : ℕ → Method → Bool
 accepts count m = nat_le m.required count && nat_le count (m.required + length m.defaults)
 
+-- member m, if it takes so many arguments
 abbrev pub if_accepts : ℕ → ℕ → Option Method → Option ℕ
 if_accepts count m None = None
 if_accepts count m (Some k) = if accepts count k then Some m else None
@@ -51,6 +53,7 @@ abbrev pub found : Parts → ℕ → SelectorKind → List ℕ → ℕ → Optio
 found p c kind name count =
     option_and_then (λ m. if_accepts count m (slice_get p.methods m)) (first_declared p.methods kind name (chain (parents p.classes) c))
 
+-- what a call of this selector finds on class c
 abbrev pub found_by : Parts → ℕ → Selector → Option ℕ
 found_by p c sel = found p c sel.kind sel.name sel.count
 
@@ -62,6 +65,7 @@ lookup p c s = option_and_then (found_by p c) (slice_get p.selectors s)
 unfoldable pub no_such_method : Parts → ℕ → Option ℕ
 no_such_method p c = found p c Call (codes "noSuchMethod") 1
 
+-- the member found, or else a `noSuchMethod`; that of Object has the number 2
 abbrev pub target_or : Option ℕ → Option ℕ → Target
 target_or (Some m) missing = target.Method (record { 0 = m })
 target_or None missing = target.Nsm (record { 0 = unwrap_or missing 2 })

@@ -8,6 +8,7 @@ use Rattle.program.specs.declared.numbered.Selector.{Selector}
 use Rattle.program.specs.declared.numbered.Site.{Site}
 use Rattle.program.specs.Hierarchy.{Parents, Supers}
 
+-- a program as six lists, where each thing goes by its place in its list
 pub record Parts : Type 0 where
   pub classes : List Class
   pub methods : List Method
@@ -19,12 +20,15 @@ pub record Parts : Type 0 where
 abbrev pub parts : List Class → List Method → List Function → List Selector → List Site → List Literal → Parts
 parts classes methods functions selectors sites globals = record { classes = classes; methods = methods; functions = functions; selectors = selectors; sites = sites; globals = globals }
 
+-- for each class the number of the one above it by `extends`
 abbrev pub parents : List Class → Parents
 parents = map (λ k. option_map (λ p. p.0) k.parent)
 
+-- the numbers behind `extends` and `implements` in a class's head
 abbrev pub named_above : Class → List ℕ
 named_above k = option_to_list (option_map (λ p. p.0) k.parent) ++ map (λ i. i.0) k.interfaces
 
+-- the same for each class
 abbrev pub supers : List Class → Supers
 supers = map named_above
 
@@ -33,6 +37,7 @@ abbrev pub concrete : Option Class → Bool
 concrete None = false
 concrete (Some k) = not k.is_abstract
 
+-- class c is there and not declared abstract
 abbrev pub is_concrete : List Class → ℕ → Bool
 is_concrete classes c = concrete (slice_get classes c)
 

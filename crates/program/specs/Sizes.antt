@@ -93,16 +93,19 @@ abbrev pub body_size : Body → ℕ
 body_size (body.Arrow e) = exp_size (c.exp e)
 body_size (body.Block all) = stas_size (c.stas (map c.sta all))
 
+-- a built-in member and a field have no code
 abbrev pub code_size : MethodBody → ℕ
 code_size (does.Code b) = body_size b
 code_size _ = 0
 
+-- a member's parameters and its code
 abbrev pub method_size : Method → ℕ
 method_size m = m.required + length m.defaults + code_size m.body
 
 abbrev pub function_size : Function → ℕ
 function_size f = f.required + length f.defaults + body_size f.body
 
+-- a written constructor's parameters, what it passes on, and its body
 abbrev pub constructor_size : Option Constructor → ℕ
 constructor_size None = 0
 constructor_size (Some b) = b.required + length b.defaults + exps_size (c.exps (map c.exp b.passes)) + stas_size (c.stas (map c.sta b.body))

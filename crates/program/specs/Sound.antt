@@ -77,6 +77,7 @@ Asks n (Some sel) = IsTrue (not (same_kind sel.kind Set)) × (sel.count ≡ n)
 abbrev pub Accepts : ℕ → ℕ → ℕ → Type 0
 Accepts required defaults n = (required ≤ n) × (n ≤ required + defaults)
 
+-- a function that is there and takes so many arguments
 abbrev pub FunctionAccepts : ℕ → Option Function → Type 0
 FunctionAccepts n None = ⊥
 FunctionAccepts n (Some f) = Accepts f.required (length f.defaults) n
@@ -96,6 +97,7 @@ abbrev pub after_first : ℕ → First → ℕ
 after_first slots (c.first_declares e) = suc slots
 after_first slots _ = slots
 
+-- the same behind a statement
 abbrev pub after : ℕ → Sta → ℕ
 after slots (c.declare e) = suc slots
 after slots _ = slots
@@ -112,6 +114,7 @@ module _ (p : Parts) (here : Option ℕ) where
   AboveAccepts m n None = ⊥
   AboveAccepts m n (Some k) = (super_member here k.role k.name ≡ Some m) × Accepts k.required (length k.defaults) n
 
+  -- a member of this kind
   abbrev pub IsRole : SelectorKind → Option Method → Type 0
   IsRole kind None = ⊥
   IsRole kind (Some k) = k.role ≡ kind
@@ -120,6 +123,7 @@ module _ (p : Parts) (here : Option ℕ) where
   abbrev pub IsAbove : SelectorKind → ℕ → ℕ → Type 0
   IsAbove kind n m = IsRole kind (slice_get p.methods m) × AboveAccepts m n (slice_get p.methods m)
 
+  -- a member that is called or read
   abbrev pub IsNoSetter : Option Method → Type 0
   IsNoSetter None = ⊥
   IsNoSetter (Some k) = IsTrue (not (same_kind k.role Set))
@@ -198,6 +202,7 @@ module _ (p : Parts) (here : Option ℕ) where
   IsNull (c.constant literal.Null) = Unit {0}
   IsNull _ = ⊥
 
+  -- what `return` answers: null, where it may have no value
   abbrev pub Returns : Bool → ℕ → Exp → Type 0
   Returns true slots e = Sound slots e
   Returns false slots e = IsNull e
@@ -223,6 +228,7 @@ module _ (p : Parts) (here : Option ℕ) where
       SoundStas slots loops c.end_of = Unit {0}
       SoundStas slots loops (c.next x more) = SoundSta slots loops x × SoundStas (after slots x) loops more
 
+  -- a body with so many slots, outside of any loop
   abbrev pub SoundBody : ℕ → Body → Type 0
   SoundBody slots (body.Arrow e) = Sound slots (c.exp e)
   SoundBody slots (body.Block all) = SoundStas true slots false (c.stas (map c.sta all))

@@ -24,6 +24,7 @@ use Rattle.program.specs.Sound.{Is, Accepts, ConstructorAccepts, AllSound, Sound
 
 -- Fields. In an object the fields of the classes above come first, the highest class's before all.
 
+-- how many fields a class itself declares
 abbrev pub own_fields : Option Class → ℕ
 own_fields None = 0
 own_fields (Some k) = length k.fields
@@ -48,6 +49,7 @@ abbrev pub IsNamed : Parts → Option ClassId → Type 0
 IsNamed p None = Unit {0}
 IsNamed p (Some d) = (d.0 < length p.classes) × IsTrue (is_open d.0)
 
+-- what a parameter sets, if it is a `this.x`, is a field of the class
 abbrev pub SetsField : Parts → ℕ → Option (Option ℕ) → Type 0
 SetsField p class (Some (Some field)) = Declares p class field
 SetsField p class _ = Unit {0}
@@ -59,6 +61,7 @@ pub record SoundConstructor (p : Parts) (class : ℕ) (b : Constructor) : Type 0
   pub passes : AllSound p None (length b.sets) (c.exps (map c.exp b.passes))
   pub body : SoundStas p (Some class) false (length b.sets) false (c.stas (map c.sta b.body))
 
+-- a class need not have a written constructor
 abbrev pub HasSoundConstructor : Parts → ℕ → Option Constructor → Type 0
 HasSoundConstructor p class None = Unit {0}
 HasSoundConstructor p class (Some b) = SoundConstructor p class b
@@ -73,6 +76,7 @@ abbrev pub SuperAccepts : Parts → ℕ → Option ClassId → Type 0
 SuperAccepts p n None = n ≡ 0
 SuperAccepts p n (Some d) = ConstructorAccepts n (option_and_then (λ (k : Class). k.constructor) (slice_get p.classes d.0))
 
+-- what holds of class number `class`, which is k
 pub record SoundClass (p : Parts) (class : ℕ) (k : Class) : Type 0 where
   pub text : IsAscii k.name
   pub parent : IsNamed p k.parent
@@ -80,6 +84,7 @@ pub record SoundClass (p : Parts) (class : ℕ) (k : Class) : Type 0 where
   pub constructor : HasSoundConstructor p class k.constructor
   pub above : SuperAccepts p (passed k.constructor) k.parent
 
+-- A number with no class asks nothing.
 abbrev pub IsClass : Parts → ℕ → Option Class → Type 0
 IsClass p class None = Unit {0}
 IsClass p class (Some k) = SoundClass p class k
@@ -99,6 +104,7 @@ SoundCode p m k (does.ReadField field) = (49 ≤ m) × (k.role ≡ Get) × Decla
 SoundCode p m k (does.WriteField field) = (49 ≤ m) × (k.role ≡ Set) × Declares p k.owner.0 field
 SoundCode p m k (does.Code b) = (49 ≤ m) × SoundBody p (Some k.owner.0) (k.required + length k.defaults) b
 
+-- what holds of member number m, which is k
 pub record SoundMethod (p : Parts) (m : ℕ) (k : Method) : Type 0 where
   pub owner : k.owner.0 < length p.classes
   pub of_user : 49 ≤ m → 7 ≤ k.owner.0
@@ -106,13 +112,16 @@ pub record SoundMethod (p : Parts) (m : ℕ) (k : Method) : Type 0 where
   pub no_such_method : k.role ≡ Call → k.name ≡ codes "noSuchMethod" → Accepts k.required (length k.defaults) 1
   pub code : SoundCode p m k k.body
 
+-- A number with no member asks nothing.
 abbrev pub IsMethod : Parts → ℕ → Option Method → Type 0
 IsMethod p m None = Unit {0}
 IsMethod p m (Some k) = SoundMethod p m k
 
+-- two members of one class, kind and name
 abbrev pub same_member : Method → Method → Bool
 same_member a b = nat_eq a.owner.0 b.owner.0 && (same_kind a.role b.role && bytes_eq a.name b.name)
 
+-- two functions of one name
 abbrev pub same_name : Function → Function → Bool
 same_name a b = bytes_eq a.name b.name
 
@@ -122,15 +131,18 @@ AreDistinct {A} same xs = (i j : ℕ) (a b : A) → slice_get xs i ≡ Some a �
 
 -- Functions, selectors and sites.
 
+-- A function's body stands in no class, and has a slot for each parameter.
 abbrev pub IsFunction : Parts → Option Function → Type 0
 IsFunction p None = Unit {0}
 IsFunction p (Some f) = SoundBody p None (f.required + length f.defaults) f.body
 
+-- a read has no argument, and a write has one
 abbrev pub CountsByKind : SelectorKind → ℕ → Type 0
 CountsByKind Call n = Unit {0}
 CountsByKind Get n = n ≡ 0
 CountsByKind Set n = n ≡ 1
 
+-- a selector's name is ASCII, and its arguments fit its kind
 abbrev pub IsSelector : Option Selector → Type 0
 IsSelector None = Unit {0}
 IsSelector (Some sel) = IsAscii sel.name × CountsByKind sel.kind sel.count
@@ -141,10 +153,12 @@ IsPlaced p s (place.At line column) = s + 2 < length p.sites
 IsPlaced p s place.Print = (s + 2 ≡ length p.sites) × Is Call (codes "toString") 0 (selector_at p s)
 IsPlaced p s place.List = (s + 1 ≡ length p.sites) × Is Call (codes "toString") 0 (selector_at p s)
 
+-- a site's selector is there, and its place fits its number
 abbrev pub IsSite : Parts → ℕ → Option Site → Type 0
 IsSite p s None = Unit {0}
 IsSite p s (Some site) = (site.selector.0 < length p.selectors) × IsPlaced p s site.place
 
+-- what every numbered program keeps
 pub record IsSound (p : Parts) : Type 0 where
   -- classes
   pub order : IsPreorder (parents p.classes)

@@ -4,6 +4,7 @@ use Rattle.program.specs.Parts.{Parts}
 use Rattle.static_rules.specs.Accepted as accepted
 use Rattle.resolver.specs.declared.limits.Counts.{Counts}
 
+-- the counts, as src/ has them
 abbrev pub counts_of : Counts → accepted.Counts
 counts_of c = record { classes = c.classes; methods = c.methods; functions = c.functions; selectors = c.selectors; sites = c.sites }
 

@@ -9,13 +9,16 @@ use Rattle.program.specs.declared.numbered.Selector.{Selector}
 use Rattle.dart_meaning.specs.Place.{Place, reading, writing}
 use Rattle.dart_meaning.specs.Sites.{Site, site}
 
+-- a place of the text, as src/ has it
 abbrev pub place_of : TextPlace → Place
 place_of (v.Reading byte) = reading byte
 place_of (v.Writing byte) = writing byte
 
+-- a selector, as src/ has it
 abbrev pub selector_of : SourceSelector → Selector
 selector_of sel = record { kind = sel.kind; name = sel.name.now; count = sel.count }
 
+-- a call site, as src/ has it
 abbrev pub site_of_source : SourceSite → Site
 site_of_source s = site (place_of s.place) (selector_of s.selector)
 

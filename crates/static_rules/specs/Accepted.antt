@@ -27,6 +27,7 @@ use Rattle.static_rules.specs.WrongArgumentsOfStatic.{wrong_arguments_of_static}
 abbrev pub Finding : Type 0
 Finding = Rule × Fault
 
+-- the rules in their order, each with the first place at which the tree breaks it
 abbrev pub findings : Tree → List Finding
 findings tree =
     (DuplicateName, duplicate_name tree)
@@ -44,6 +45,7 @@ findings tree =
     ∷ (WrongArgumentsOfStatic, wrong_arguments_of_static tree)
     ∷ []
 
+-- the first of these rules that is broken
 abbrev pub first_broken : List Finding → Option (Rule × Span)
 first_broken [] = None
 first_broken ((rule, None) ∷ more) = first_broken more
@@ -55,6 +57,7 @@ failing tree = first_broken (findings tree)
 
 -- ---- what is counted
 
+-- what a program has limits for
 pub record Counts : Type 0 where
   pub classes : ℕ
   pub methods : ℕ
@@ -75,6 +78,7 @@ methods_of (t.setter n param b) = one_if (is_some b)
 methods_of (t.operator op at params b) = one_if (is_some b)
 methods_of (t.constructor n params passed b) = 0
 
+-- the methods of all classes of the text
 abbrev pub user_methods : Tree → ℕ
 user_methods tree = sum_by (λ (c : ClassDecl). sum_by methods_of c.members) (classes tree)
 
@@ -90,6 +94,7 @@ counts tree = record {
 
 -- ---- limits
 
+-- the greatest count that is accepted
 abbrev pub most : Limit → ℕ
 most limit.Classes = 2048
 most limit.Methods = 32767
@@ -97,6 +102,7 @@ most limit.Functions = 32767
 most limit.Selectors = 2048
 most limit.Sites = 65536
 
+-- the first of these counts that is over its limit
 abbrev pub first_over : List (Limit × ℕ) → Option (Limit × ℕ)
 first_over [] = None
 first_over ((what, count) ∷ more) = if nat_lt (most what) count then Some (what, count) else first_over more

@@ -17,6 +17,7 @@ abbrev pub own_count : Text → Member → Option ℕ
 own_count name (t.method n params b) = if_so (bytes_eq n.text name) (length params)
 own_count name _ = None
 
+-- how many parameters a built-in class's method of a name has
 abbrev pub built_in_count : Text → Text → Option ℕ
 built_in_count class name =
     option_and_then (λ number. option_map (λ (m : Method). m.required) (find (is_declared_by number Call name) built_in_members)) (position (bytes_eq class) built_in_names)
@@ -30,13 +31,16 @@ count_in class name None = built_in_count class name
 abbrev pub count_above : Tree → Text → Text → Option ℕ
 count_above tree class name = first_some (map (λ above. count_in above name (class_named tree above)) (chain_above tree class))
 
+-- another number than that of the declaration above, if there is one
 abbrev pub differs : Option ℕ → ℕ → Bool
 differs None k = false
 differs (Some n) k = not (nat_eq n k)
 
+-- where one member breaks the rule
 abbrev pub in_member : Tree → ClassDecl → Member → Fault
 in_member tree c (t.method n params b) = at_if (differs (count_above tree c.name.text n.text) (length params)) n.span
 in_member tree c _ = None
 
+-- the first place at which the tree breaks the rule
 unfoldable pub bad_override : Tree → Fault
 bad_override tree = first_in (λ (c : ClassDecl). first_in (in_member tree c) c.members) (classes tree)

@@ -11,10 +11,12 @@ is_constructor_body of_member = false
 is_constructor_body of_passed = false
 is_constructor_body of_constructor = true
 
+-- where one use breaks the rule
 abbrev pub misplaced : Part → Use → Fault
 misplaced part (leaves_loop at is_open) = at_if (not is_open) at
 misplaced part (returns_value at) = at_if (is_constructor_body part.kind) at
 misplaced part _ = None
 
+-- the first place at which the tree breaks the rule
 unfoldable pub bad_return_place : Tree → Fault
 bad_return_place tree = in_parts misplaced tree

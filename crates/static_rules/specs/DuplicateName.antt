@@ -28,6 +28,7 @@ abbrev mutual
   in_stas t.done = None
   in_stas (t.next x more) = in_sta x or_else in_stas more
 
+-- two locals of a block, or of one inside it
 abbrev pub in_block : Stas → Fault
 in_block all = repeats (locals all) or_else in_stas all
 
@@ -37,9 +38,11 @@ in_body (t.code all) = in_block all
 
 -- ---- parameters of one function
 
+-- two parameters of one name
 abbrev pub in_params : List Param → Fault
 in_params params = repeats (map (λ (p : Param). p.name) params)
 
+-- within a body or block, if there is one
 abbrev pub in_some : {A : Type 0} → (A → Fault) → Option A → Fault
 in_some f None = None
 in_some f (Some x) = f x
@@ -73,6 +76,7 @@ written_name (t.setter n param b) = Some n
 written_name (t.operator op at params b) = Some (named (operator_name op params) at)
 written_name (t.constructor n params passed b) = None
 
+-- the name by which a constructor is one
 abbrev pub constructor_name : Member → Option Name
 constructor_name (t.constructor n params passed b) = Some n
 constructor_name _ = None
@@ -85,6 +89,7 @@ has_class_name class (t.getter n b) = at_if (bytes_eq n.text class) n.span
 has_class_name class (t.setter n param b) = at_if (bytes_eq n.text class) n.span
 has_class_name class _ = None
 
+-- two members of one name, a member with the class's name, or within a member
 abbrev pub in_class : ClassDecl → Fault
 in_class c =
     repeats (filter_map read_name c.members)
@@ -95,6 +100,7 @@ in_class c =
 
 -- ---- declarations of a text
 
+-- within one declaration
 abbrev pub in_top : Top → Fault
 in_top (t.a_class c) = in_class c
 in_top (t.a_function f) = in_params f.params or_else in_body f.body

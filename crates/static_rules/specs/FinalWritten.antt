@@ -11,6 +11,7 @@ use Rattle.static_rules.specs.Places.{Fault, at_if}
 use Rattle.static_rules.specs.InParts.{in_parts}
 use Rattle.static_rules.specs.Statics.{Static, a_variable, static_named}
 
+-- a final variable, a function, a class or `print`
 abbrev pub is_fixed_static : Static → Bool
 is_fixed_static (a_variable v) = v.is_final
 is_fixed_static _ = true
@@ -25,10 +26,12 @@ is_fixed tree name _ = false
 abbrev pub is_initialised : Option ClassDecl → Text → Bool
 is_initialised class name = list_any (λ (f : Local). bytes_eq f.name.text name && f.is_final && is_some f.value) (declared_fields class)
 
+-- where one use breaks the rule
 abbrev pub final_in : Tree → Part → Use → Fault
 final_in tree part (writes n seen) = at_if (is_fixed tree n.text (means tree part n seen)) n.span
 final_in tree part (sets_field n) = at_if (is_initialised part.class n.text) n.span
 final_in tree part _ = None
 
+-- the first place at which the tree breaks the rule
 unfoldable pub final_written : Tree → Fault
 final_written tree = in_parts (final_in tree) tree

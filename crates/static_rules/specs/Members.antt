@@ -33,15 +33,19 @@ declared_by (t.constructor n params passed b) = None
 abbrev pub user_members : Tree → List Declared
 user_members tree = flat_map (λ (c : ClassDecl). filter_map declared_by c.members) (classes tree)
 
+-- a method among these has this name
 abbrev pub is_method_of : List Declared → Text → Bool
 is_method_of all name = list_any (λ d. bytes_eq d.name.text name && d.is_method) all
 
+-- a field, a getter or a setter among these has this name
 abbrev pub is_accessor_of : List Declared → Text → Bool
 is_accessor_of all name = list_any (λ d. bytes_eq d.name.text name && not d.is_method) all
 
+-- a method of a built-in class has this name
 abbrev pub is_built_in_method : Text → Bool
 is_built_in_method name = list_any (λ (m : Method). bytes_eq m.name name && same_kind m.role Call) built_in_members
 
+-- a getter of a built-in class has this name
 abbrev pub is_built_in_accessor : Text → Bool
 is_built_in_accessor name = list_any (λ (m : Method). bytes_eq m.name name && not (same_kind m.role Call)) built_in_members
 

@@ -10,9 +10,11 @@ differs before d =
     if d.is_method then is_built_in_accessor d.name.text || is_accessor_of before d.name.text
     else is_built_in_method d.name.text || is_method_of before d.name.text
 
+-- the first of these members that differs, behind those before
 abbrev pub mixed : List Declared → List Declared → Fault
 mixed before [] = None
 mixed before (d ∷ more) = at_if (differs before d) d.name.span or_else mixed (d ∷ before) more
 
+-- the first place at which the tree breaks the rule
 unfoldable pub mixed_name : Tree → Fault
 mixed_name tree = mixed [] (user_members tree)

@@ -6,6 +6,7 @@ use Rattle.dart_syntax.specs.declared.token.Span.{Span}
 abbrev pub Fault : Type 0
 Fault = Option Span
 
+-- the earlier of two places
 abbrev pub before : Span → Span → Span
 before a b = if nat_lt b.start a.start then b else a
 

@@ -12,6 +12,7 @@ Before = Text → Bool
 abbrev pub nothing_before : Before
 nothing_before q = false
 
+-- one name more
 abbrev pub with_name : Text → Before → Before
 with_name name seen q = bytes_eq name q || seen q
 

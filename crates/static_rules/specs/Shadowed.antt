@@ -5,9 +5,11 @@ use Rattle.dart_meaning.specs.Uses.{Use, declares, Part}
 use Rattle.static_rules.specs.Places.{Fault, at_if}
 use Rattle.static_rules.specs.InParts.{in_parts}
 
+-- where one use breaks the rule
 abbrev pub shadows : Part → Use → Fault
 shadows part (declares n outside) = at_if (is_some outside) n.span
 shadows part _ = None
 
+-- the first place at which the tree breaks the rule
 unfoldable pub shadowed : Tree → Fault
 shadowed tree = in_parts shadows tree

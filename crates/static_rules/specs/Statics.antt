@@ -12,12 +12,14 @@ pub data Static : Type 0 where
   a_class : t.ClassDecl → Static
   a_built_in : Static
 
+-- what a declaration of the text is; where there is none the name is built in
 abbrev pub static_of : Option Top → Static
 static_of None = a_built_in
 static_of (Some (t.a_class c)) = a_class c
 static_of (Some (t.a_function f)) = a_function f
 static_of (Some (t.a_variable v)) = a_variable v
 
+-- what a name of the text, a built-in class or `print` stands for
 abbrev pub static_named : Tree → Text → Static
 static_named tree name = static_of (top_named tree name)
 

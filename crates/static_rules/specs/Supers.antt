@@ -25,6 +25,7 @@ is_above_itself tree c = list_any (λ (n : Name). is_subtype tree n.text c.name.
 unfoldable pub cycle_in_super : Tree → Fault
 cycle_in_super tree = first_in (λ (c : ClassDecl). at_if (is_above_itself tree c) c.name.span) (classes tree)
 
+-- a built-in class that may be neither extended nor implemented
 abbrev pub is_closed : Name → Bool
 is_closed n = list_any (bytes_eq n.text) built_in_names && not (bytes_eq n.text object)
 

@@ -25,6 +25,7 @@ is_torn_call tree name of_this = is_accessor tree name
 is_torn_call tree name a_top = is_variable (static_named tree name)
 is_torn_call tree name nothing = false
 
+-- where one use breaks the rule
 abbrev pub torn_off : Tree → Part → Use → Fault
 torn_off tree part (reads n seen) = at_if (is_torn_read tree n.text (means tree part n seen)) n.span
 torn_off tree part (calls n seen k) = at_if (is_torn_call tree n.text (means tree part n seen)) n.span
@@ -34,5 +35,6 @@ torn_off tree part (member_reads n) = at_if (is_method tree n.text) n.span
 torn_off tree part (member_calls n k) = at_if (is_accessor tree n.text) n.span
 torn_off tree part _ = None
 
+-- the first place at which the tree breaks the rule
 unfoldable pub tear_off : Tree → Fault
 tear_off tree = in_parts (torn_off tree) tree

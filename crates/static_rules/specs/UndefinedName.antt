@@ -21,6 +21,7 @@ is_undefined this nothing = true
 is_undefined this a_member = not this
 is_undefined this _ = false
 
+-- a member of `super` that is not there, or the word itself where no object is `this`
 abbrev pub of_super : Bool → Span → Name → Bool → Fault
 of_super this at n there = if this then at_if (not there) n.span else Some at
 
@@ -28,6 +29,7 @@ of_super this at n there = if this then at_if (not there) n.span else Some at
 abbrev pub has_field : Option ClassDecl → Text → Bool
 has_field class name = list_any (λ (f : Local). bytes_eq f.name.text name) (declared_fields class)
 
+-- where one use breaks the rule
 abbrev pub undefined_in : Tree → Part → Use → Fault
 undefined_in tree part (reads n seen) = at_if (is_undefined (has_this part.kind) (means tree part n seen)) n.span
 undefined_in tree part (writes n seen) = at_if (is_undefined (has_this part.kind) (means tree part n seen)) n.span
@@ -40,5 +42,6 @@ undefined_in tree part (names_class n) = at_if (not (is_class tree n.text)) n.sp
 undefined_in tree part (sets_field n) = at_if (not (has_field part.class n.text)) n.span
 undefined_in tree part _ = None
 
+-- the first place at which the tree breaks the rule
 unfoldable pub undefined_name : Tree → Fault
 undefined_name tree = in_parts (undefined_in tree) tree

@@ -23,14 +23,17 @@ static_count tree name (a_function f) = Some (length f.params)
 static_count tree name (a_class c) = Some (constructor_count tree name)
 static_count tree name a_built_in = Some (if bytes_eq name print_name then 1 else 0)
 
+-- another number of arguments than is taken, where it is known
 abbrev pub differs : ℕ → Option ℕ → Bool
 differs k None = false
 differs k (Some n) = not (nat_eq k n)
 
+-- a bare call of a function, a class or `print`, with another number
 abbrev pub is_wrong_call : Tree → Text → ℕ → Means → Bool
 is_wrong_call tree name k a_top = differs k (static_count tree name (static_named tree name))
 is_wrong_call tree name k _ = false
 
+-- a call of a method of `super` with a number that it does not take
 abbrev pub is_wrong_super : ℕ → Option Taking → Bool
 is_wrong_super k None = false
 is_wrong_super k (Some m) = not (agrees k m)
@@ -40,11 +43,13 @@ abbrev pub super_count : Tree → Option ClassDecl → ℕ
 super_count tree None = 0
 super_count tree (Some c) = constructor_count tree (unwrap_or (parent tree c.name.text) object)
 
+-- where one use breaks the rule
 abbrev pub wrong_in : Tree → Part → Use → Fault
 wrong_in tree part (calls n seen k) = at_if (is_wrong_call tree n.text k (means tree part n seen)) n.span
 wrong_in tree part (super_calls at n k) = at_if (is_wrong_super k (super_member tree part.class Call n.text)) n.span
 wrong_in tree part (enters_super at k) = at_if (not (nat_eq k (super_count tree part.class))) at
 wrong_in tree part _ = None
 
+-- the first place at which the tree breaks the rule
 unfoldable pub wrong_arguments_of_static : Tree → Fault
 wrong_arguments_of_static tree = in_parts (wrong_in tree) tree

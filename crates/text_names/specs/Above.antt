@@ -21,6 +21,7 @@ use Rattle.text_names.specs.Around.{Around}
 abbrev pub required_of : List Method → ℕ → SelectorKind → Text → Option ℕ
 required_of methods number kind name = option_map (λ (m : Method). m.required) (find (is_declared_by number kind name) methods)
 
+-- so many arguments and no other number
 abbrev pub exactly : ℕ → Takes
 exactly n = record { least = n; most = n }
 
@@ -28,6 +29,7 @@ exactly n = record { least = n; most = n }
 abbrev pub built_in_takes : List Class → List Method → Text → SelectorKind → Text → Option Takes
 built_in_takes classes methods class kind name = option_and_then (λ number. option_map exactly (required_of methods number kind name)) (position (λ (k : Class). bytes_eq class k.name) classes)
 
+-- a class's own members of a kind
 abbrev pub reached_by : SelectorKind → Around → Known Takes
 reached_by Call a = a.calls
 reached_by Get a = a.reads
@@ -38,6 +40,7 @@ abbrev pub own_takes : List Class → List Method → Option Around → Text →
 own_takes classes methods (Some a) class kind name = reached_by kind a name
 own_takes classes methods None class kind name = built_in_takes classes methods class kind name
 
+-- the name of the class directly above one; a class that is not known is a built-in one
 abbrev pub parent_in : Option Around → Text → Option Text
 parent_in (Some a) class = parent_of (Some a.class) class
 parent_in None class = parent_of None class
@@ -56,6 +59,7 @@ named_around known None = None
 abbrev pub own_of : Tree → SelectorKind → Text → Text → Option Takes
 own_of tree kind name class = option_map takes_of (own tree class kind name)
 
+-- what the first member of the kind and name takes, from a class up in the tree
 abbrev pub nearest : Tree → SelectorKind → Text → ℕ → Text → Option Takes
 nearest tree kind name most class = takes_up (own_of tree kind name) (parent tree) most class
 
@@ -64,6 +68,7 @@ abbrev pub super_by : Tree → SelectorKind → Text → Option Around → Optio
 super_by tree kind name (Some a) = option_map takes_of (super_member tree (Some a.class) kind name)
 super_by tree kind name None = None
 
+-- how many arguments the constructor of the superclass takes
 abbrev pub count_by_class : Tree → Option Around → ℕ
 count_by_class tree (Some a) = super_count tree (Some a.class)
 count_by_class tree None = 0

@@ -24,6 +24,7 @@ pub record Around : Type 0 where
   pub calls : Known Takes
   pub params : ℕ
 
+-- what is to be known of a class
 abbrev pub around : ClassDecl → Around
 around c = record {
   class = c;
@@ -49,6 +50,7 @@ around_of n = record {
   params = n.params;
 }
 
+-- what a map of src/ holds of classes
 unfoldable pub knows : {S : Type 0} → HashMap (Bor Text) ClassNames S → Known Around
 knows m q = option_map around_of (in_map m q)
 

@@ -8,6 +8,7 @@ use Rattle.text_names.specs.Around.{Around}
 use Rattle.text_names.specs.declared.names.Within.{Within}
 use Rattle.text_names.specs.declared.names.Within.TheVariants as within
 
+-- the name is one of the class's members, fields, or final fields with a value
 abbrev pub has_in : Within → Around → Text → Bool
 has_in within.Members a q = a.members q
 has_in within.Fields a q = a.fields q

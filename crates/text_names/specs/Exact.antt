@@ -11,6 +11,7 @@ use Rattle.static_rules.specs.Members.{is_method_of, is_accessor_of, user_member
 use Rattle.text_names.specs.Maps.{Names, Known}
 use Rattle.text_names.specs.Around.{Around, around}
 
+-- what src/ holds of the names of a tree, and that each part is what the definitions give for the tree
 pub record IsExact (tree : Tree) (tops : Known Top) (known : Known Around) (methods accessors : Names) (classes : List Class) (members : List Method) : Type 0 where
   pub tops_are : (q : Text) → tops q ≡ top_named tree q
   pub classes_are : (q : Text) → known q ≡ option_map around (class_named tree q)

@@ -8,6 +8,7 @@ use Rattle.text_names.specs.declared.noted.Sort.{Sort}
 use Rattle.text_names.specs.declared.noted.Sort.TheVariants as sort
 use Rattle.text_names.specs.Maps.{Names, with_some}
 
+-- a field is of the sort; `Initialised` are the final ones with a value
 abbrev pub is_field_of : Sort → Local → Bool
 is_field_of sort.Named l = true
 is_field_of sort.Field l = true
@@ -23,6 +24,7 @@ has_methods sort.Initialised = false
 has_methods sort.Method = true
 has_methods sort.Accessor = false
 
+-- getters and setters are of the sort
 abbrev pub has_accessors : Sort → Bool
 has_accessors sort.Named = true
 has_accessors sort.Field = false

@@ -13,9 +13,11 @@ use Rattle.text_names.specs.Maps.{Known, with_first, in_map}
 abbrev pub top_of : Bor src.Top → Top
 top_of t = top t.now
 
+-- the declarations that a map of src/ holds
 unfoldable pub stands_for : {S : Type 0} → HashMap (Bor Text) (Bor src.Top) S → Known Top
 stands_for m q = option_map top_of (in_map m q)
 
+-- what was known before, and then the first declaration of each name
 abbrev pub also_tops : List Top → Known Top → Known Top
 also_tops [] known = known
 also_tops (t ∷ more) known = also_tops more (with_first (top_name t).text t known)

@@ -80,6 +80,7 @@ abbrev mutual
 
 -- ---- declarations
 
+-- the nodes of all items of a list
 abbrev pub all_nodes : {A : Type 0} → (A → ℕ) → List A → ℕ
 all_nodes nodes [] = 0
 all_nodes nodes (x ∷ more) = nodes x + all_nodes nodes more
@@ -96,6 +97,7 @@ abbrev pub some_block_nodes : Option Stas → ℕ
 some_block_nodes None = 0
 some_block_nodes (Some all) = stas_nodes all
 
+-- what a constructor passes to its superclass
 abbrev pub passed_nodes : Option Passed → ℕ
 passed_nodes None = 0
 passed_nodes (Some p) = exps_nodes p.args
@@ -120,5 +122,6 @@ top_nodes (t.a_class c) = class_nodes c
 top_nodes (t.a_function f) = function_nodes f
 top_nodes (t.a_variable v) = 1
 
+-- the nodes of a whole tree
 abbrev pub tree_nodes : Tree → ℕ
 tree_nodes tree = all_nodes top_nodes tree.tops

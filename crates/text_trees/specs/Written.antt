@@ -50,6 +50,7 @@ abbrev mutual
   IsWrittenSelector (t.send n args) = AreWrittenExps args
   IsWrittenSelector (t.index at e) = IsWrittenExp e
 
+  -- what may be assigned to
   pub IsTarget : Exp → Type 0
   IsTarget (t.bare n) = Unit {0}
   IsTarget (t.super_get at n) = Unit {0}
@@ -66,6 +67,7 @@ abbrev mutual
   IsLastOfTarget (t.send n args) = ⊥
   IsLastOfTarget (t.index at e) = IsWrittenExp e
 
+-- the same of what may be left out: a value, a condition, or what `return` answers
 abbrev pub IsWrittenValue : Option Exp → Type 0
 IsWrittenValue None = Unit {0}
 IsWrittenValue (Some e) = IsWrittenExp e
@@ -109,6 +111,7 @@ pub record IsPlainParam (p : Param) : Type 0 where
   pub written : IsWrittenParam p
   pub no_field : p.is_field ≡ false
 
+-- each item of a list has the property
 abbrev pub Each : {A : Type 0} → (A → Type 0) → List A → Type 0
 Each P [] = Unit {0}
 Each P (x ∷ more) = P x × Each P more
@@ -135,6 +138,7 @@ abbrev pub MayBeWrittenPassed : Option Passed → Type 0
 MayBeWrittenPassed None = Unit {0}
 MayBeWrittenPassed (Some p) = AreWrittenExps p.args
 
+-- what the grammar keeps of a member: its name, its parameters and its body
 abbrev pub IsWrittenMember : Member → Type 0
 IsWrittenMember (t.field l) = IsWrittenName l.name.text × IsWrittenValue l.value
 IsWrittenMember (t.method n params b) = IsWrittenName n.text × ArePlainParams params × MayBeWrittenBody b
@@ -143,6 +147,7 @@ IsWrittenMember (t.setter n param b) = IsWrittenName n.text × IsPlainParam para
 IsWrittenMember (t.operator op at params b) = ArePlainParams params × MayBeWrittenBody b
 IsWrittenMember (t.constructor n params passed b) = AreWrittenParams params × MayBeWrittenPassed passed × MayBeWrittenBlock b
 
+-- what the grammar keeps of a declaration
 abbrev pub IsWrittenTop : Top → Type 0
 IsWrittenTop (t.a_class c) = IsWrittenName c.name.text × Each IsWrittenMember c.members
 IsWrittenTop (t.a_function f) = IsWrittenName f.name.text × ArePlainParams f.params × IsWrittenBody f.body
@@ -172,6 +177,7 @@ StandsInText (reading byte) = Unit {0}
 StandsInText (writing byte) = Unit {0}
 StandsInText _ = ⊥
 
+-- what holds of a call site of a text
 pub record IsWrittenSite (s : Site) : Type 0 where
   pub stands : StandsInText s.place
   pub ascii : IsAscii s.selector.name
@@ -182,6 +188,7 @@ site_keys tree = map (λ (s : Site). key s.place) (text_sites tree)
 
 -- ---- whole trees
 
+-- what holds of the tree of every text
 pub record IsWritten (tree : Tree) : Type 0 where
   -- names are ASCII, no parameter can be left out, and what is assigned to can be
   pub tops : Each IsWrittenTop tree.tops

@@ -15,9 +15,11 @@ use Rattle.dart_meaning.specs.Forms.{FieldForm}
 abbrev pub local_of : Bor src.Local → Local
 local_of l = local l.now
 
+-- a field, and what it holds at first
 abbrev pub numbered_field : Local → FieldForm
 numbered_field l = record { name = l.name.text; value = literal_or_null l.value }
 
+-- what a variable holds at first
 abbrev pub value_of : Local → Value
 value_of v = literal_or_null v.value
 

@@ -7,6 +7,7 @@ use Rattle.dart_meaning.specs.Classes.{field_place}
 use Rattle.dart_meaning.specs.Forms.{MethodForm, reads_field, writes_field}
 use Rattle.dart_meaning.specs.NumberedForm.{method, numbered_members}
 
+-- the getter of a field, and its setter unless it is final
 abbrev pub field_methods : Tree → Text → Local → List MethodForm
 field_methods tree class f =
     method tree class Get f.name.text 0 [] (reads_field (field_place tree class f.name.text))

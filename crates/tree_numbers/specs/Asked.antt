@@ -7,6 +7,7 @@ use Rattle.dart_meaning.specs.Classes.{class_named}
 use Rattle.tree_numbers.specs.Maps.{Known}
 use Rattle.tree_numbers.specs.ClassFacts.{Facts, facts}
 
+-- a class that is known has a member of this name
 abbrev pub has_name : Option Facts → Text → Bool
 has_name None q = false
 has_name (Some f) q = f.named q
@@ -16,10 +17,12 @@ abbrev pub declares_in : Known Facts → Option Text → Text → Bool
 declares_in known None q = false
 declares_in known (Some h) q = has_name (known h) q
 
+-- a class that is known and not abstract, so that a call of its name makes an object
 abbrev pub is_made : Option Facts → Bool
 is_made None = false
 is_made (Some f) = not f.class.is_abstract
 
+-- the place of a field among those that its class declares
 abbrev pub own_place : Option Facts → Text → ℕ
 own_place None q = 0
 own_place (Some f) q = unwrap_or (f.fields q) 0

@@ -26,10 +26,12 @@ named (t.setter n param b) = Some n.text
 named (t.operator op at params b) = None
 named (t.constructor n params passed b) = None
 
+-- the names so far, and those of these members
 abbrev pub also_named : List Member → Names → Names
 also_named [] known = known
 also_named (m ∷ more) known = also_named more (with_some (named m) known)
 
+-- a field is read, and unless it is final it is written; it is never called
 abbrev pub is_field_for : SelectorKind → Local → Bool
 is_field_for Get l = true
 is_field_for Set l = not l.is_final
@@ -44,6 +46,7 @@ owned kind (t.setter n param b) = if_so (same_kind kind Set && is_some b) n.text
 owned kind (t.operator op at params b) = if_so (same_kind kind Call && is_some b) (operator_name op params)
 owned kind (t.constructor n params passed b) = None
 
+-- the names so far, and those of these members that are of the kind
 abbrev pub also_owned : SelectorKind → List Member → Names → Names
 also_owned kind [] known = known
 also_owned kind (m ∷ more) known = also_owned kind more (with_some (owned kind m) known)
@@ -58,6 +61,7 @@ pub record Facts : Type 0 where
   pub writes : Names
   pub calls : Names
 
+-- what is to be known of a class
 abbrev pub facts : ClassDecl → Facts
 facts c = record {
   class = c;
@@ -81,6 +85,7 @@ facts_of n = record {
   calls = in_set n.calls;
 }
 
+-- what a map of src/ holds of classes
 unfoldable pub knows : {S : Type 0} → HashMap (Bor Text) ClassFacts S → Known Facts
 knows m q = option_map facts_of (in_map m q)
 

@@ -12,6 +12,7 @@ use Rattle.tree_numbers.specs.Maps.{Known}
 use Rattle.tree_numbers.specs.ClassFacts.{Facts, facts}
 use Rattle.tree_numbers.specs.Members.{Held}
 
+-- what src/ holds beside a tree, and that each part is what the definitions give for the tree
 pub record IsExact (tree : Tree) (built_in : List Method) (known : Known Facts) (levels : ℕ) (order : List Text) (numbers : Known ℕ) (members : Held) (functions variables : Known ℕ) : Type 0 where
   pub built_in_are : built_in ≡ built_in_members
   pub classes_are : (q : Text) → known q ≡ option_map facts (class_named tree q)

@@ -19,11 +19,14 @@ text_of t = t.now
 abbrev pub texts : List (Bor Text) → List Text
 texts names = map text_of names
 
+-- the name of a declaration that is a function
 abbrev pub function_name : Top → Option Text
 function_name top = option_map (λ (f : Function). f.name.text) (function_at top)
 
+-- the name of a declaration that is a variable
 abbrev pub variable_name : Top → Option Text
 variable_name top = option_map (λ (v : Local). v.name.text) (variable_at top)
 
+-- the name of a member that is a field
 abbrev pub field_name : Member → Option Text
 field_name m = option_map (λ (f : Local). f.name.text) (field_of m)

@@ -23,15 +23,18 @@ abbrev pub fields_up : ℕ → Known Facts → Text → ℕ
 fields_up zero known class = 0
 fields_up (suc n) known class = unwrap_or (option_map (λ above. field_count (known above) + fields_up n known above) (above_in known class)) 0
 
+-- a class has a member with a body, of this kind and name
 abbrev pub owns_of : SelectorKind → Facts → Text → Bool
 owns_of Get f q = f.reads q
 owns_of Set f q = f.writes q
 owns_of Call f q = f.calls q
 
+-- the same of a built-in class, by its number
 abbrev pub has_at : List Method → SelectorKind → Text → Option ℕ → Bool
 has_at methods kind name None = false
 has_at methods kind name (Some c) = list_any (is_declared_by c kind name) methods
 
+-- the same of any class; one that is not known is a built-in one
 abbrev pub owned_if : List Method → SelectorKind → Text → Text → Option Facts → Bool
 owned_if methods kind name class None = has_at methods kind name (position (bytes_eq class) built_in_names)
 owned_if methods kind name class (Some f) = owns_of kind f name

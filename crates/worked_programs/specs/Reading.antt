@@ -21,6 +21,7 @@ times n xs = flat_map (λ ys. ys) (replicate n xs)
 abbrev pub source : List Text → Text
 source = flat_map (λ line. line ++ 10 ∷ [])
 
+-- the tree of the declarations that a parser read
 abbrev pub tree_read : {E : Type 0} → Result (List Top × List Token) E → Option Tree
 tree_read (Ok p) = Some (t.tree_of p.0)
 tree_read (Err e) = None
@@ -30,6 +31,7 @@ abbrev pub tree_of_tokens : {E : Type 0} → Result (List Token) E → Option Tr
 tree_of_tokens (Ok list) = tree_read (units.whole_unit (statements.stmt 200) (expressions.expr 200) list)
 tree_of_tokens (Err e) = None
 
+-- the tree of a text, if it has one
 abbrev pub tree_of_text : Text → Option Tree
 tree_of_text text = tree_of_tokens (lexer.lex text)
 
@@ -37,6 +39,7 @@ tree_of_text text = tree_of_tokens (lexer.lex text)
 abbrev pub entry_of_tree : ℕ → Text → ℕ → Tree → Option Meaning
 entry_of_tree depth name turns tree = option_map (λ f. seen (entry_run tree (site_of tree) depth f turns)) (entry_named tree name)
 
+-- what an entry of a text does, with a greatest depth and a number of turns
 abbrev pub meaning_within : ℕ → Text → Text → ℕ → Option Meaning
 meaning_within depth text name turns = option_and_then (entry_of_tree depth name turns) (tree_of_text text)
 
@@ -45,5 +48,6 @@ abbrev pub DoesWithin : ℕ → Text → Text → ℕ → List Text → Ending �
 DoesWithin depth text name turns lines ending asked tests =
     meaning_within depth text name turns ≡ Some (record { lines = lines; ending = ending; asked = asked; tests = tests })
 
+-- the same with the depth that every entry may reach
 abbrev pub Does : Text → Text → ℕ → List Text → Ending → List (ℕ × ℕ) → List (ℕ × ℕ) → Type 0
 Does = DoesWithin greatest_depth
