@@ -16,6 +16,7 @@ use Rattle.call_cell.specs.declared.cell.Cell.{Cell}
 
 -- ---- one site
 
+-- the state of a site whose targets stand in its selector's table
 abbrev pub is_mega : CallState → Bool
 is_mega Unlinked = false
 is_mega (Mono a) = false

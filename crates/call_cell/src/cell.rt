@@ -34,6 +34,7 @@ pub fn unlinked() -> Cell
     }
 }
 
+#[inline(always)]
 pub fn is_mega(state: CallState) -> bool
     ensures { result ≡ is_mega state }
 {
@@ -45,6 +46,7 @@ pub fn is_mega(state: CallState) -> bool
 }
 
 /// The target that the site itself has for a class, if it covers it.
+#[inline(always)]
 pub fn target_for(cell: &Cell, c: ClassId) -> Option<Target>
     ensures { result ≡ target_for cell.now.state cell.now.target (checks_of cell.now.row) c.0 }
 {

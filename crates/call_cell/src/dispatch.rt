@@ -62,6 +62,7 @@ impl PlainCells {
     }
 
     /// The target that is kept for a call, if the site covers the class. It looks nothing up.
+    #[inline(always)]
     fn hit(&self, linked: &Linked, site: SiteId, c: ClassId) -> Option<Target>
         requires made { linked_of self.now ≡ linked.now }
         requires site { site.0 < length linked.now.program.sites }
@@ -78,6 +79,7 @@ impl PlainCells {
     }
 
     /// How many transitions the site made.
+    #[inline(always)]
     fn stamp(&self, site: SiteId) -> u16
         requires { site.0 < length (linked_of self.now).program.sites }
         ensures { result ≡ ((kept self.now).site site.0).stamp }
@@ -126,6 +128,7 @@ impl PlainCells {
     }
 
     /// Answers a call on a class that is not covered, by lookup.
+    #[inline(never)]
     fn miss(&mut self, linked: &Linked, site: SiteId, c: ClassId) -> Target
         requires made { linked_of self.old ≡ linked.now }
         requires site { site.0 < length linked.now.program.sites }
@@ -174,6 +177,7 @@ impl Cells for PlainCells {
 
     ghost after_both = { after_both };
 
+    #[inline(always)]
     fn dispatch<L: Ledger>(
         &mut self,
         linked: &Linked,

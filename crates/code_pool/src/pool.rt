@@ -87,11 +87,11 @@ impl CodePool {
         &self.constants[k as usize]
     }
 
-    /// All that `Const` may push.
+    /// All constants, in order.
     pub fn constants(&self) -> &[Constant]
         ensures { result.now ≡ self.now.constants }
     {
-        self.constants.as_slice()
+        &self.constants
     }
 
     /// The unit of a function or constructor.

@@ -1,9 +1,6 @@
-pub mod Tests
-pub mod Forgets
-pub mod Sends
-pub mod Invokes
-pub mod Loops
-pub mod Acts
-pub mod Equals
 pub mod Begins
-pub mod Ends
+pub mod Counts
+pub mod Far
+pub mod Runs
+pub mod Starts
+pub mod Tells

@@ -135,7 +135,7 @@ enter_there p pool answers u s bs xs h =
 
 -- ---- the values below the top ones
 
-seam : {A : Type 0} (xs ys zs : List A) (n : ℕ) → xs ≡ ys ++ zs → length zs ≡ n → (take (length xs - n) xs ≡ ys) × (drop (length xs - n) xs ≡ zs)
+pub seam : {A : Type 0} (xs ys zs : List A) (n : ℕ) → xs ≡ ys ++ zs → length zs ≡ n → (take (length xs - n) xs ≡ ys) × (drop (length xs - n) xs ≡ zs)
 seam xs ys zs n e size =
     let whole : length xs ≡ length ys + length zs = ap length e ∙ length-append ys zs in
     let count : length xs - n ≡ length ys = omega (arith, whole, size) in
@@ -189,7 +189,7 @@ writes k old mid low after f o w e_w e_o heap keeps pushed p pool turns c held =
 
 -- ---- built-in members
 
-receiver_split : (n at : ℕ) (i : Isolate) (r : Value) → at ≡ length i.values.items - n → 0 < n → n ≤ length i.values.items → r ≡ slice_index_or i.values.items at r
+pub receiver_split : (n at : ℕ) (i : Isolate) (r : Value) → at ≡ length i.values.items - n → 0 < n → n ≤ length i.values.items → r ≡ slice_index_or i.values.items at r
     → above n i ≡ value_of i.heap r ∷ values_of i.heap (drop (at + 1) i.values.items)
 receiver_split n at i r is some enough e =
     let back : drop at i.values.items ≡ slice_index_or i.values.items at r ∷ drop (suc at) i.values.items = drop-cons i.values.items at r (omega (arith, is, some, enough)) in

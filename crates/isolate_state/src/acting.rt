@@ -71,11 +71,11 @@ pub fn act(
         Instr::LoopTurn => Ok(loop_turn(isolate, frame, turns)),
         Instr::CallStatic(k, n) => {
             let u = pool.static_target(k);
-            let flow = enter(alloc, pool, isolate, frame, turns, u, n)?;
+            let flow = enter(alloc, pool, isolate, frame, turns, u, n as usize)?;
             Ok(flow)
         }
         Instr::CallMethod(m, n) => {
-            let flow = call_method(alloc, program, pool, isolate, frame, turns, m, n)?;
+            let flow = call_method(alloc, program, pool, isolate, frame, turns, m, n as usize)?;
             Ok(flow)
         }
         Instr::Return => {

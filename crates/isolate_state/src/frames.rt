@@ -89,7 +89,7 @@ pub fn enter(
     frame: &mut Frame,
     turns: &mut u64,
     u: UnitId,
-    n: u32,
+    n: usize,
 ) -> Result<Flow, NoMemory>
     requires there { u.0 < length pool.now.units }
     requires takes { TakesValues pool.now u.0 n }
@@ -106,8 +106,8 @@ pub fn enter(
     if isolate.callers.len() >= 1999 {
         return Ok(Flow::StackOverflow);
     }
-    let base = isolate.values.len() - n as usize;
-    fill(alloc, unit, isolate, n as usize)?;
+    let base = isolate.values.len() - n;
+    fill(alloc, unit, isolate, n)?;
     let caller = Frame {
         unit: frame.unit,
         place: frame.place + 1,

@@ -21,7 +21,7 @@ pub fn native(
     program: &Numbered,
     isolate: &mut Isolate,
     id: NativeId,
-    n: u32,
+    n: usize,
 ) -> Result<bool, NoMemory>
     requires built_in { id.0 < 49 }
     requires no_list_text { id.0 ≢ 43 }
@@ -30,7 +30,7 @@ pub fn native(
     requires held { AreOf isolate.old }
     ensures { IfOk result (λ went. Answered (parts_of program.now) id n isolate.old went isolate.new) }
 {
-    let at = isolate.values.len() - n as usize;
+    let at = isolate.values.len() - n;
     let receiver = isolate.values[at];
     match isolate
         .heap
@@ -92,7 +92,7 @@ pub fn call_method(
     frame: &mut Frame,
     turns: &mut u64,
     m: MethodId,
-    n: u32,
+    n: usize,
 ) -> Result<Flow, NoMemory>
     requires place { frame.old.place + 1 < 2 ^ 64 }
     requires some { 0 < n }

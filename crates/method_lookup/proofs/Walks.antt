@@ -14,7 +14,7 @@ use Rattle.program.proofs.Intervals.{chain_step}
 use Rattle.method_lookup.specs.Index.{name_number, selector_names, keyed_if, first_keyed, found_keyed}
 use Rattle.method_lookup.proofs.Keys.{first_keyed_is}
 
-step_of : (up : Parents) → IsPreorder up → (at : Option ℕ) (c : ℕ) → at ≡ Some c → chain_of up at ≡ c ∷ above_chain up c
+pub step_of : (up : Parents) → IsPreorder up → (at : Option ℕ) (c : ℕ) → at ≡ Some c → chain_of up at ≡ c ∷ above_chain up c
 step_of up h at c e = ap (chain_of up) e ∙ chain_step up h c
 
 -- one class further up, where this one has no such member
@@ -27,9 +27,6 @@ found_above up methods role name h at above c e is none =
 
 pub shorter_above : (up : Parents) → IsPreorder up → (at above : Option ℕ) (c : ℕ) → at ≡ Some c → above ≡ parent_in up c → length (chain_of up at) ≡ suc (length (chain_of up above))
 shorter_above up h at above c e is = ap (λ (cs : List ℕ). length cs) (step_of up h at c e) ∙ ap (λ o. suc (length (chain_of up o))) (sym is)
-
-pub some_above : (up : Parents) → IsPreorder up → (at : Option ℕ) (c : ℕ) → at ≡ Some c → length (chain_of up at) ≡ suc (length (above_chain up c))
-some_above up h at c e = ap (λ (cs : List ℕ). length cs) (step_of up h at c e)
 
 -- The class itself has it.
 pub found_here : (up : Parents) (methods : List Method) (role : SelectorKind) (name : Option ℕ) → IsPreorder up → (at : Option ℕ) (c m : ℕ) → at ≡ Some c → keyed_if methods role name c ≡ Some m

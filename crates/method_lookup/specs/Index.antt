@@ -12,6 +12,7 @@ use Rattle.program.specs.Parts.{Parts, parents}
 use Rattle.program.specs.Lookup.{same_kind, or_above, if_accepts}
 use Rattle.method_lookup.specs.declared.index.MemberKey.{MemberKey}
 
+-- a member of this name
 abbrev pub has_name : List ℕ → Method → Bool
 has_name name m = bytes_eq m.name name
 
@@ -19,6 +20,7 @@ has_name name m = bytes_eq m.name name
 unfoldable pub name_number : List Method → List ℕ → Option ℕ
 name_number methods name = position_from (has_name name) 0 methods
 
+-- the number is there, and is n
 abbrev pub is_number : ℕ → Option ℕ → Bool
 is_number n None = false
 is_number n (Some k) = nat_eq n k
@@ -27,6 +29,7 @@ is_number n (Some k) = nat_eq n k
 abbrev pub is_keyed_by : (List ℕ → Option ℕ) → ℕ → SelectorKind → ℕ → Method → Bool
 is_keyed_by number c role n m = nat_eq c m.owner.0 && (same_kind role m.role && is_number n (number m.name))
 
+-- the same, by the names of these members
 abbrev pub is_keyed : List Method → ℕ → SelectorKind → ℕ → Method → Bool
 is_keyed methods = is_keyed_by (name_number methods)
 
@@ -50,12 +53,15 @@ selector_names methods selectors = map (λ s. name_number methods s.name) select
 
 -- What the maps of src/ hold.
 
+-- the number of a name, as a map of src/ holds it
 abbrev pub number_in : {S : Type 0} → HashMap (Bor (List ℕ)) ℕ S → List ℕ → Option ℕ
 number_in names q = get_by (λ k. bytes_eq q k.now) names
 
+-- the key of class c, of this kind, with the name's number n
 abbrev pub is_key : ℕ → SelectorKind → ℕ → MemberKey → Bool
 is_key c role n k = nat_eq c k.owner && (same_kind role k.role && nat_eq n k.name)
 
+-- the member of that key, as a map of src/ holds it
 abbrev pub member_in : {S : Type 0} → HashMap MemberKey ℕ S → ℕ → SelectorKind → ℕ → Option ℕ
 member_in members c role n = get_by (is_key c role n) members
 

@@ -3,5 +3,7 @@
 
 mod index;
 mod linked;
+mod subtypes;
 
 pub use linked::Linked;
+pub use subtypes::{PlainSubtypes, Subtypes};

@@ -7,6 +7,7 @@ ghost use Rattle.program.specs.Program.{parts_of};
 ghost use Rattle.program.specs.Lookup.{lookup, resolve, no_such_method, if_accepts};
 ghost use Rattle.class_table.specs.Table.{table_of};
 ghost use Rattle.method_lookup.specs.Index.{name_number, selector_names, member_in, keyed, first_keyed, found_keyed};
+ghost use Rattle.method_lookup.specs.Visits.{keyed_visits, lookup_visits, missing_visits, resolve_visits};
 
 use crate::index::{Index, MemberKey, index_of, member_at};
 use class_table::ClassTable;
@@ -64,7 +65,7 @@ impl Linked {
     ) -> Option<u16>
         requires { c.0 < length self.now.program.classes }
         ensures found { result ≡ first_keyed self.now.program.methods role name (chain (parents self.now.program.classes) c.0) }
-        ensures cost { steps.new ≤ steps.old + length (chain (parents self.now.program.classes) c.0) }
+        ensures visits { steps.new ≡ steps.old + keyed_visits self.now.program.methods role name (chain (parents self.now.program.classes) c.0) }
     {
         let name = name?;
         let mut at = Some(c);
@@ -94,7 +95,7 @@ impl Linked {
     ) -> Option<MethodId>
         requires { c.0 < length self.now.program.classes }
         ensures found { option_map (λ m. m.0) result ≡ found_keyed (parts_of self.now.program) c.0 role name count }
-        ensures cost { steps.new ≤ steps.old + length (chain (parents self.now.program.classes) c.0) }
+        ensures visits { steps.new ≡ steps.old + keyed_visits self.now.program.methods role name (chain (parents self.now.program.classes) c.0) }
     {
         let member = self.first_up(c, role, name, steps)?;
         let method = self.program.methods.get(member as usize)?;
@@ -114,6 +115,7 @@ impl Linked {
         requires class { c.0 < length self.now.program.classes }
         requires selector { sel.0 < length self.now.program.selectors }
         ensures found { option_map (λ m. m.0) result ≡ lookup (parts_of self.now.program) c.0 sel.0 }
+        ensures visits { steps.new ≡ steps.old + lookup_visits (parts_of self.now.program) c.0 sel.0 }
         ensures cost { steps.new ≤ steps.old + length (chain (parents self.now.program.classes) c.0) }
     {
         let selector = &self.program.selectors.as_slice()[sel.0 as usize];
@@ -124,6 +126,7 @@ impl Linked {
     fn no_such_method<L: Ledger>(&self, c: ClassId, steps: &mut Steps<L>) -> MethodId
         requires { c.0 < length self.now.program.classes }
         ensures member { no_such_method (parts_of self.now.program) c.0 ≡ Some result.0 }
+        ensures visits { steps.new ≡ steps.old + missing_visits (parts_of self.now.program) c.0 }
         ensures cost { steps.new ≤ steps.old + length (chain (parents self.now.program.classes) c.0) }
     {
         match self.find(c, SelectorKind::Call, self.index.missing_name, 1, steps) {
@@ -142,6 +145,7 @@ impl Linked {
         requires class { c.0 < length self.now.program.classes }
         requires selector { sel.0 < length self.now.program.selectors }
         ensures target { result ≡ resolve (parts_of self.now.program) c.0 sel.0 }
+        ensures visits { steps.new ≡ steps.old + resolve_visits (parts_of self.now.program) c.0 sel.0 }
         ensures cost { steps.new ≤ steps.old + 2 * length (chain (parents self.now.program.classes) c.0) }
     {
         match self.lookup(c, sel, steps) {

@@ -4,8 +4,4 @@ pub mod FineExps
 pub mod FineStas
 pub mod Units
 pub mod Bodies
-pub mod Props
 pub mod Whole
-pub mod Ways
-pub mod WaysOfCode
-pub mod NoWayBack

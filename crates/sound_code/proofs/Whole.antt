@@ -2,7 +2,6 @@
 use Rattle.std.proofs.Common.{◌≡◌, ℕ, suc, true, false, List, [], ◌∷◌, length, slice_get, refl, subst, ◌+◌}
 use Rattle.std.specs.Option.{option_and_then}
 use Rattle.std.specs.Prelude.{take, Option, Some, None}
-use Rattle.std.proofs.Math.Logic.{∥∥₁_elim}
 use Rattle.program.specs.declared.body.Body.{Body}
 use Rattle.program.specs.declared.numbered.Class.{Class}
 use Rattle.program.specs.declared.numbered.Method.{Method}
@@ -16,9 +15,8 @@ use Rattle.dart_meaning.specs.Numbered.{constructor_of}
 use Rattle.code_unit.specs.Sound.{IsSound}
 use Rattle.code_pool.specs.Pool.{Pool}
 use Rattle.program_code.specs.IsCode.{IsCode}
-use Rattle.program_code.proofs.Used.{HoldsOfCode, holds_of_used, there}
-use Rattle.sound_code.specs.Laws.{CodeIsSound, AllCodeIsSound}
-use Rattle.sound_code.proofs.Props.{sound_prop}
+use Rattle.program_code.proofs.Used.{HoldsOfCode, holds_of_used}
+use Rattle.sound_code.specs.Laws.{CodeIsSound}
 use Rattle.sound_code.proofs.Bodies.{body_sound, constructor_sound, list_sound}
 
 first_of_taken : {A : Type 0} (n : ℕ) (xs ys : List A) (y : A) → take (suc n) xs ≡ y ∷ ys → slice_get xs 0 ≡ Some y
@@ -59,9 +57,3 @@ module _ (p : Parts) (sound : program.IsSound p) (pool : Pool) (constant : Liter
 
 pub code_is_sound : CodeIsSound
 code_is_sound p sound pool constant code = holds_of_used p pool constant IsSound code (all_sound p sound pool constant code)
-
--- ---- all units
-
-pub all_code_is_sound : AllCodeIsSound
-all_code_is_sound p sound pool code only u unit here =
-    ∥∥₁_elim sound (sound_prop unit) (λ s. code_is_sound p s pool code.constant code.is_code u unit (only u (there pool.units u unit here)) here)
