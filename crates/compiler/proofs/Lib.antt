@@ -1,5 +1,4 @@
 mod BodiesOfUnits
 mod Growing
-mod Named
-mod NoOthers
 mod Pools
+mod Uses

@@ -94,6 +94,20 @@ pub record Built {A B : Type 0} (P : A → B → Type 0) (sources : List A) (cou
   pub as_many : length answers ≡ count
   pub each : (g : ℕ) (k : A) → g < count → slice_get sources g ≡ Some k → (r : B) × (slice_get answers g ≡ Some r) × P k r
 
+-- Each unit from one number up to another is what some answer stands for.
+pub record Reaches {B : Type 0} (item : ℕ → B) (answers : List B) (from to : ℕ) : Type 0 where
+  pub on : from ≤ to
+  pub each : (u : ℕ) → from ≤ u → u < to → (i : ℕ) × (slice_get answers i ≡ Some (item u))
+
+-- Each unit from one number up to another is what this answer stands for.
+pub record IsFor {B : Type 0} (item : ℕ → B) (answer : B) (from to : ℕ) : Type 0 where
+  pub on : from ≤ to
+  pub each : (u : ℕ) → from ≤ u → u < to → answer ≡ item u
+
+-- the body of a member with unit u
+abbrev pub code_of : ℕ → pool_body.MethodBody
+code_of u = pooled.Code (unit_id u)
+
 module _ (base : Layout) (units : List declared_unit.Unit) (table : List Literal) where
   -- what a function has
   abbrev pub FunctionHas : Function → UnitId → Type 0
@@ -128,17 +142,3 @@ pub record HasParts (o : Option Constructor) (parts : ConstructorParts) : Type 0
   pub sets : sets_of o ≡ parts.sets.now
   pub passes : passes_of o ≡ exps (map exp parts.passes.now)
   pub body : body_of o ≡ stas_of parts.body.now
-
--- ---- units that were added
-
--- what a member with the code of a unit has
-abbrev pub code_of : ℕ → pool_body.MethodBody
-code_of u = pooled.Code (unit_id u)
-
--- A unit that was added is the one that the answer names: `says` gives the answer that names a unit.
-pub record IsNamed {A : Type 0} (says : ℕ → A) (old new : List declared_unit.Unit) (answer : A) : Type 0 where
-  pub each : (u : ℕ) → length old ≤ u → u < length new → answer ≡ says u
-
--- each unit that was added is named by one of the answers
-pub record AreNamed {A : Type 0} (says : ℕ → A) (old new : List declared_unit.Unit) (answers : List A) : Type 0 where
-  pub each : (u : ℕ) → length old ≤ u → u < length new → (g : ℕ) × (slice_get answers g ≡ Some (says u))

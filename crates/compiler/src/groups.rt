@@ -3,7 +3,7 @@ ghost use Rattle.std.specs.Prelude.{◌≡◌, ◌++◌, ◌∷◌, [], OnOk, If
 ghost use Rattle.dart_meaning.specs.Calls.{list_to_string};
 ghost use Rattle.code_pool.specs.declared.pool.MethodBody.TheVariants as pooled;
 ghost use Rattle.program_code.specs.IsCode.{unit_id};
-ghost use Rattle.compiler.specs.Units.{Grows, HasItem, Built, FunctionHas, ClassHas, MethodHas, BeginsWith, IsBodyUnit, IsNamed, AreNamed, code_of};
+ghost use Rattle.compiler.specs.Units.{Grows, HasItem, Built, FunctionHas, ClassHas, MethodHas, BeginsWith, IsBodyUnit, Reaches, IsFor, code_of};
 
 use crate::units::{body_unit, constructor_unit};
 use body_writer::small;
@@ -32,8 +32,8 @@ fn function<'a>(
     k: &'a Function,
 ) -> Result<UnitId, AllocError>
     ensures has { IfOk result (FunctionHas base units.new.items out.new.table k.now) }
+    ensures one { IfOk result (λ id. IsFor unit_id id (length units.old.items) (length units.new.items)) }
     ensures grows { OnOk result (Grows units.old.items out.old.table units.new.items out.new.table) }
-    ensures named { IfOk result (IsNamed unit_id units.old.items units.new.items) }
 {
     let unit = body_unit(
         alloc,
@@ -57,8 +57,8 @@ pub fn functions<'a>(
     all: &'a [Function],
 ) -> Result<Vec<UnitId>, AllocError>
     ensures built { IfOk result (λ ids. Built (FunctionHas base units.new.items out.new.table) all.now (length all.now) ids.items) }
+    ensures uses { IfOk result (λ ids. Reaches unit_id ids.items (length units.old.items) (length units.new.items)) }
     ensures grows { OnOk result (Grows units.old.items out.old.table units.new.items out.new.table) }
-    ensures named { IfOk result (λ ids. AreNamed unit_id units.old.items units.new.items ids.items) }
 {
     let mut ids = Vec::new(alloc);
     for k in all {
@@ -76,8 +76,8 @@ fn class<'a>(
     k: &'a Class,
 ) -> Result<UnitId, AllocError>
     ensures has { IfOk result (ClassHas base units.new.items out.new.table k.now) }
+    ensures one { IfOk result (λ id. IsFor unit_id id (length units.old.items) (length units.new.items)) }
     ensures grows { OnOk result (Grows units.old.items out.old.table units.new.items out.new.table) }
-    ensures named { IfOk result (IsNamed unit_id units.old.items units.new.items) }
 {
     let unit = constructor_unit(alloc, out, base, k)?;
     let id = add(units, unit)?;
@@ -93,8 +93,8 @@ pub fn classes<'a>(
     all: &'a [Class],
 ) -> Result<Vec<UnitId>, AllocError>
     ensures built { IfOk result (λ ids. Built (ClassHas base units.new.items out.new.table) all.now (length all.now) ids.items) }
+    ensures uses { IfOk result (λ ids. Reaches unit_id ids.items (length units.old.items) (length units.new.items)) }
     ensures grows { OnOk result (Grows units.old.items out.old.table units.new.items out.new.table) }
-    ensures named { IfOk result (λ ids. AreNamed unit_id units.old.items units.new.items ids.items) }
 {
     let mut ids = Vec::new(alloc);
     for k in all {
@@ -125,8 +125,8 @@ fn method<'a>(
     k: &'a Method,
 ) -> Result<MethodBody, AllocError>
     ensures has { IfOk result (MethodHas base units.new.items out.new.table text k.now) }
+    ensures own { IfOk result (λ body. IsFor code_of body (length units.old.items) (length units.new.items)) }
     ensures grows { OnOk result (Grows units.old.items out.old.table units.new.items out.new.table) }
-    ensures named { IfOk result (IsNamed code_of units.old.items units.new.items) }
 {
     match &k.body {
         program::MethodBody::Native(n) => Ok(native(text, *n)),
@@ -158,8 +158,8 @@ pub fn methods<'a>(
     all: &'a [Method],
 ) -> Result<Vec<MethodBody>, AllocError>
     ensures built { IfOk result (λ bodies. Built (MethodHas base units.new.items out.new.table text) all.now (length all.now) bodies.items) }
+    ensures uses { IfOk result (λ bodies. Reaches code_of bodies.items (length units.old.items) (length units.new.items)) }
     ensures grows { OnOk result (Grows units.old.items out.old.table units.new.items out.new.table) }
-    ensures named { IfOk result (λ bodies. AreNamed code_of units.old.items units.new.items bodies.items) }
 {
     let mut bodies = Vec::new(alloc);
     for k in all {

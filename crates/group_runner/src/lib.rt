@@ -1,6 +1,8 @@
-//! Runs the entries of a program.
+//! Runs entries as isolates of one group, over the same cells.
 #![tactic(auto)]
 
+mod end;
 mod one;
 
-pub use one::{GroupEnd, run_one};
+pub use end::{EndCells, GroupEnd};
+pub use one::run_one;

@@ -1,5 +1,5 @@
 use Rattle.compiler.proofs.Growing.{item_last, grows_by}
-use Rattle.compiler.proofs.Named.{unit_named}
+use Rattle.compiler.proofs.Uses.{is_for_one}
 use Rattle.compiler.proofs.groups.class.Goals as goal
 
 pub returns-clause-has : goal.returns-clause-has
@@ -8,5 +8,5 @@ returns-clause-has c = item_last c.args.units.now.items c.add.new.units.items c.
 pub returns-clause-grows : goal.returns-clause-grows
 returns-clause-grows c = grows_by c.args.units.now.items c.add.new.units.items c.in_ok-unit.unit c.args.out.now.table c.constructor_unit.new.out.table c.in_ok-id.ensures.units c.in_ok-unit.ensures.table
 
-pub returns-clause-named : goal.returns-clause-named
-returns-clause-named c = unit_named c.args.units.now.items c.add.new.units.items c.in_ok-unit.unit c.in_ok-id.id c.in_ok-id.ensures.units c.in_ok-id.ensures.number
+pub returns-clause-one : goal.returns-clause-one
+returns-clause-one c = is_for_one c.args.units.now.items c.add.new.units.items c.in_ok-unit.unit c.in_ok-id.id c.in_ok-id.ensures.units c.in_ok-id.ensures.number

@@ -1,14 +1,14 @@
 use Rattle.std.proofs.Common.{arith, refl, sym, subst, length, ◌+◌}
 use Rattle.std.proofs.lemmas.Option.{slice_get_read}
+use Rattle.compiler.specs.Units.{Built, Reaches, ClassHas}
 use Rattle.program_code.specs.IsCode.{unit_id}
-use Rattle.compiler.specs.Units.{AreNamed, Built, ClassHas}
+use Rattle.compiler.proofs.Uses.{reaches_none, reaches_next}
 use Rattle.compiler.proofs.Growing.{built_none, built_next, grows_self, grows_on, class_grows}
-use Rattle.compiler.proofs.Named.{nothing_named, next_named}
 use Rattle.compiler.proofs.groups.classes.Goals as goal
 
 pub loop-k-init : goal.loop-k-init
 loop-k-init c =
-    (subst (Built (ClassHas c.args.base c.args.units.now.items c.args.out.now.table) c.args.all.now 0) (sym c.new-ids.ensures.items) (built_none _ _), grows_self _ _, subst (AreNamed unit_id c.args.units.now.items c.args.units.now.items) (sym c.new-ids.ensures.items) (nothing_named unit_id _))
+    (subst (Built (ClassHas c.args.base c.args.units.now.items c.args.out.now.table) c.args.all.now 0) (sym c.new-ids.ensures.items) (built_none _ _), grows_self _ _, subst (λ xs. Reaches unit_id xs (length c.args.units.now.items) (length c.args.units.now.items)) (sym c.new-ids.ensures.items) (reaches_none unit_id (length c.args.units.now.items)))
 
 pub loop-k-preserved : goal.loop-k-preserved
 loop-k-preserved c =
@@ -17,6 +17,6 @@ loop-k-preserved c =
       subst (Built (ClassHas c.args.base c.class.new.units.items c.class.new.out.table) c.args.all.now (c.loop-k.k-index + 1)) (sym c.in_ok-push.ensures.items)
           (built_next (ClassHas c.args.base c.loop-k.units.items c.loop-k.out.table) (ClassHas c.args.base c.class.new.units.items c.class.new.out.table) (class_grows c.args.base grows) c.args.all.now c.loop-k.k-index c.k-item.result _ _ there c.in_ok-class.ensures.has c.loop-k.invariant.0),
       grows_on c.loop-k.invariant.1 grows,
-      subst (AreNamed unit_id c.args.units.now.items c.class.new.units.items) (sym c.in_ok-push.ensures.items)
-          (next_named unit_id c.args.units.now.items c.loop-k.units.items c.class.new.units.items c.loop-k.ids.items c.in_ok-class.field-0 c.loop-k.invariant.2 c.in_ok-class.ensures.named),
+      subst (λ xs. Reaches unit_id xs (length c.args.units.now.items) (length c.class.new.units.items)) (sym c.in_ok-push.ensures.items)
+          (reaches_next unit_id c.loop-k.ids.items _ (length c.args.units.now.items) (length c.loop-k.units.items) (length c.class.new.units.items) c.loop-k.invariant.2 c.in_ok-class.ensures.one),
     )

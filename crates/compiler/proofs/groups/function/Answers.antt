@@ -1,7 +1,7 @@
 use Rattle.std.proofs.Common.{subst, false}
 use Rattle.compiler.specs.Units.{IsBodyUnit}
 use Rattle.compiler.proofs.Growing.{item_last, grows_by}
-use Rattle.compiler.proofs.Named.{unit_named}
+use Rattle.compiler.proofs.Uses.{is_for_one}
 use Rattle.compiler.proofs.groups.function.Goals as goal
 
 pub returns-clause-has : goal.returns-clause-has
@@ -12,5 +12,5 @@ returns-clause-has c =
 pub returns-clause-grows : goal.returns-clause-grows
 returns-clause-grows c = grows_by c.args.units.now.items c.add.new.units.items c.in_ok-unit.unit c.args.out.now.table c.body_unit.new.out.table c.in_ok-id.ensures.units c.in_ok-unit.ensures.table
 
-pub returns-clause-named : goal.returns-clause-named
-returns-clause-named c = unit_named c.args.units.now.items c.add.new.units.items c.in_ok-unit.unit c.in_ok-id.id c.in_ok-id.ensures.units c.in_ok-id.ensures.number
+pub returns-clause-one : goal.returns-clause-one
+returns-clause-one c = is_for_one c.args.units.now.items c.add.new.units.items c.in_ok-unit.unit c.in_ok-id.id c.in_ok-id.ensures.units c.in_ok-id.ensures.number

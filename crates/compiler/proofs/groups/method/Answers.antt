@@ -3,7 +3,7 @@ use Rattle.program.specs.declared.numbered.MethodBody as program_body
 use Rattle.code_pool.specs.declared.pool.MethodBody.TheVariants as pooled
 use Rattle.compiler.specs.Units.{IsBodyUnit, MemberHas, code_of}
 use Rattle.compiler.proofs.Growing.{item_last, grows_self}
-use Rattle.compiler.proofs.Named.{none_named, code_named}
+use Rattle.compiler.proofs.Uses.{is_for_none, is_for_code}
 use Rattle.compiler.proofs.groups.method.Goals as goal
 
 pub returns-in-Native-clause-grows : goal.returns-in-Native-clause-grows
@@ -21,15 +21,14 @@ returns-in_ok-id-in-Code-clause-has c =
     (subst (λ ds. IsBodyUnit c.args.base c.body_unit.new.out.table true c.in-Code.body c.args.k.now.required ds c.in_ok-unit-in-Code.unit) c.as_slice.ensures c.in_ok-unit-in-Code.ensures.unit) in
     subst (λ (b : program_body.MethodBody). MemberHas c.args.base c.add.new.units.items c.body_unit.new.out.table c.args.text b c.args.k.now (pooled.Code c.in_ok-id-in-Code.id)) (sym c.in-Code.is) (c.in_ok-id-in-Code.id, refl, item)
 
-pub returns-in-Native-clause-named : goal.returns-in-Native-clause-named
-returns-in-Native-clause-named c = none_named code_of _ _
+pub returns-in-Native-clause-own : goal.returns-in-Native-clause-own
+returns-in-Native-clause-own c = is_for_none code_of _ _
 
-pub returns-in-ReadField-clause-named : goal.returns-in-ReadField-clause-named
-returns-in-ReadField-clause-named c = none_named code_of _ _
+pub returns-in-ReadField-clause-own : goal.returns-in-ReadField-clause-own
+returns-in-ReadField-clause-own c = is_for_none code_of _ _
 
-pub returns-in-WriteField-clause-named : goal.returns-in-WriteField-clause-named
-returns-in-WriteField-clause-named c = none_named code_of _ _
+pub returns-in-WriteField-clause-own : goal.returns-in-WriteField-clause-own
+returns-in-WriteField-clause-own c = is_for_none code_of _ _
 
-pub returns-in_ok-id-in-Code-clause-named : goal.returns-in_ok-id-in-Code-clause-named
-returns-in_ok-id-in-Code-clause-named c =
-    code_named c.args.units.now.items c.add.new.units.items c.in_ok-unit-in-Code.unit c.in_ok-id-in-Code.id c.in_ok-id-in-Code.ensures.units c.in_ok-id-in-Code.ensures.number
+pub returns-in_ok-id-in-Code-clause-own : goal.returns-in_ok-id-in-Code-clause-own
+returns-in_ok-id-in-Code-clause-own c = is_for_code c.args.units.now.items c.add.new.units.items c.in_ok-unit-in-Code.unit c.in_ok-id-in-Code.id c.in_ok-id-in-Code.ensures.units c.in_ok-id-in-Code.ensures.number

@@ -1,4 +1,4 @@
 use Rattle.group_runner.proofs.one.run_one.Given as goal
 
-abbrev pub ghosts-run_counted : goal.ghosts-run_counted
-ghosts-run_counted a = record { name = a.blank.name; parts = a.blank.parts }
+abbrev pub ghosts-one_by : goal.ghosts-one_by
+ghosts-one_by a = record { name = a.blank.name; parts = a.blank.parts }

@@ -1,2 +1,0 @@
-mod EntryPoints
-pub mod Whole
