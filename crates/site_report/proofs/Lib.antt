@@ -1,6 +1,3 @@
-pub mod Ends
-mod Nexts
-mod Named
-mod Lasts
+mod Walks
 mod Examples
-pub mod Cells
+pub mod Meant

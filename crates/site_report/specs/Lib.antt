@@ -1,4 +1,2 @@
-pub mod Lines
-pub mod Texts
-pub mod Ended
-pub mod Places
+pub mod Report
+pub mod Meant

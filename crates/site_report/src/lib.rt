@@ -1,19 +1,14 @@
-//! The texts of the commands: what a run tells of its entries and its call sites, what a load tells, and what a program has.
+//! The texts of `run`, `load`, `check` and `list`.
 #![tactic(auto)]
 
-mod counting;
+mod counts;
 mod entries;
-mod listing;
-mod loads;
-mod places;
-mod runs;
+mod list;
+mod names;
 mod sites;
-mod states;
-mod text;
+#[cfg(test)]
+mod tests;
+mod texts;
 
-pub use counting::check_text;
-pub use listing::list_text;
-pub use loads::load_text;
-pub use places::push_place;
-pub use runs::run_text;
-pub use text::{push, push_number};
+pub use list::list_text;
+pub use texts::{check_text, load_text, run_text};

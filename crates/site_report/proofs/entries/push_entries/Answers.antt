@@ -1,17 +1,18 @@
-use Rattle.std.proofs.Common.{◌∙◌, ◌+◌, ◌++◌, ap, drop, sym, arith}
-use Rattle.std.specs.List.{flat_map, enumerate_from}
-use Rattle.site_report.specs.Texts.{entry_text}
-use Rattle.site_report.proofs.Named.{pairs, named_next, named_end}
+use Rattle.std.proofs.Common.{◌+◌, ◌++◌, map, drop, length, ap, ◌∙◌, sym, refl, arith}
+use Rattle.std.specs.Prelude.{string_bytes}
+use Rattle.site_report.specs.Report.{told, told_by, entry_text}
+use Rattle.site_report.proofs.Walks.{told_at, told_all, written}
 use Rattle.site_report.proofs.entries.push_entries.Goals as goal
 
 pub loop-number-preserved : goal.loop-number-preserved
 loop-number-preserved c =
+    let names = c.args.names.now in
+    let ended = c.args.ended.now in
     let i = c.loop-number.number in
-    let all = pairs c.args.names.now c.args.ended.now in
-    ap (λ l. l ++ flat_map entry_text (enumerate_from (i + 1) (drop (i + 1) all))) c.in_ok-push_entry.ensures
-    ∙ named_next entry_text c.loop-number.out.items c.args.names.now c.args.ended.now i c.index-names-number.result c.as_str.result.now c.index-ended-number.result
-    c.requires c.loop-number-test.true c.index-names-number.is c.as_str.ensures.value c.index-ended-number.is
+    let there = told_at names ended i c.index-names-number.result c.index-ended-number.result c.loop-number-test.true (omega arith) c.index-names-number.is c.index-ended-number.is in
+    let more = c.in_ok-push_entry.ensures ∙ ap (λ name. c.loop-number.out.items ++ entry_text (i, told (name, c.index-ended-number.result))) c.as_str.ensures.value in
+    written entry_text i (told (string_bytes c.index-names-number.result, c.index-ended-number.result)) (told_by (map string_bytes (drop i names)) (drop i ended)) (told_by (map string_bytes (drop (i + 1) names)) (drop (i + 1) ended)) c.loop-number.out.items c.push_entry.new.out.items there more
     ∙ c.loop-number.invariant
 
 pub returns : goal.returns
-returns c = sym (named_end entry_text c.loop-number.out.items c.args.names.now c.args.ended.now c.loop-number.number (omega arith)) ∙ c.loop-number.invariant
+returns c = told_all entry_text c.args.names.now c.args.ended.now c.loop-number.number c.loop-number.out.items _ c.loop-number-test.false c.loop-number.invariant
