@@ -1,4 +1,4 @@
-//! Tests of the public calls of the libraries: texts, trees, streams and the members at their edges, by tables.
+//! Tests of the public calls of the libraries: texts, trees, names and streams.
 #![tactic(auto)]
 
 #[cfg(test)]
@@ -8,15 +8,11 @@ mod classes;
 #[cfg(test)]
 mod lookup;
 #[cfg(test)]
-mod members;
-#[cfg(test)]
 mod numbering;
 #[cfg(test)]
 mod parsing;
 #[cfg(test)]
 mod printing;
-#[cfg(test)]
-mod rows;
 #[cfg(test)]
 mod streams;
 #[cfg(test)]

@@ -1,7 +1,7 @@
 pub mod Words
 pub mod Outside
+pub mod Places
 pub mod Source
 pub mod Refusals
-pub mod Texts
-pub mod Running
+pub mod Runs
 pub mod Top

@@ -1,4 +1,4 @@
--- The lines of what a tree is refused for.
+-- The lines of what a tree is refused for, and the line of `check`.
 use Rattle.std.specs.Prelude.{ℕ, not, List, ◌++◌, find, Option, codes}
 use Rattle.std.specs.Fmt.{decimal}
 use Rattle.dart_syntax.specs.declared.token.Span.{Span}
@@ -7,9 +7,9 @@ use Rattle.static_rules.specs.declared.rule.Rule.{Rule}
 use Rattle.static_rules.specs.declared.rule.Rule.TheVariants as rule
 use Rattle.static_rules.specs.declared.rule.Limit.{Limit}
 use Rattle.static_rules.specs.declared.rule.Limit.TheVariants as limit
-use Rattle.static_rules.specs.Accepted.{most}
+use Rattle.static_rules.specs.Accepted.{most, Counts}
 use Rattle.dart_meaning.specs.Entry.{has_entry}
-use Rattle.site_report.specs.Places.{place_text}
+use Rattle.dart_sites.specs.Places.{place_text}
 
 abbrev pub rule_name : Rule → List ℕ
 rule_name rule.DuplicateName = codes "DuplicateName"
@@ -48,3 +48,9 @@ missing tree names = find (λ name. not (has_entry tree name)) names
 -- refused: no entry point NAME
 abbrev pub entry_line : List ℕ → List ℕ
 entry_line name = codes "refused: no entry point " ++ name ++ codes "\n"
+
+-- ok classes K methods M selectors N sites S
+abbrev pub check_text : Counts → List ℕ
+check_text c =
+    codes "ok classes " ++ decimal c.classes ++ codes " methods " ++ decimal c.methods ++ codes " selectors " ++ decimal c.selectors ++ codes " sites " ++ decimal c.sites
+    ++ codes "\n"

@@ -7,7 +7,7 @@ use Rattle.dart_syntax.specs.Derivation.{Derives}
 use Rattle.dart_lexer.specs.declared.error.LexError.{LexError}
 use Rattle.dart_lexer.specs.declared.error.LexError.TheVariants as error
 use Rattle.dart_lexer.specs.FirstFault.{Refused}
-use Rattle.site_report.specs.Places.{place_text}
+use Rattle.dart_sites.specs.Places.{place_text}
 use Rattle.dart_sites.specs.declared.source.Refusal.{Refusal}
 use Rattle.dart_sites.specs.declared.source.RefusalKind.{RefusalKind}
 use Rattle.dart_sites.specs.declared.source.RefusalKind.TheVariants as kind

@@ -1,5 +1,6 @@
 -- What each status of the program says.
-use Rattle.std.specs.Prelude.{◌≡◌, ℕ, ◌≤◌, ◌<◌, Bool, List, [], length, take, Option, MatchOption, IsSomeAnd, codes, Some, None}
+use Rattle.std.specs.Prelude.{◌≡◌, ℕ, ◌≤◌, ◌<◌, Bool, true, List, length, take, map, Option, MatchOption, IsSomeAnd, codes, Some, None}
+use Rattle.std.specs.List.{list_all}
 use Rattle.std.specs.Io.KnownBytes.{Appends}
 use Rattle.dart_syntax.specs.Syntax.{Tree}
 use Rattle.dart_syntax.specs.declared.token.Span.{Span}
@@ -7,16 +8,60 @@ use Rattle.static_rules.specs.declared.rule.Rule.{Rule}
 use Rattle.static_rules.specs.declared.rule.Limit.{Limit}
 use Rattle.static_rules.specs.Accepted as rules
 use Rattle.static_rules.specs.Accepted.{failing, exceeded, counts}
-use Rattle.dart_sites.specs.Refusals.{rule_line, limit_line, missing, entry_line}
+use Rattle.program.specs.Parts.{Parts}
+use Rattle.dart_meaning.specs.Entry.{Meaning}
+use Rattle.dart_meaning.specs.NumberedForm.{IsNumberedOf}
+use Rattle.site_report.specs.Report.{list_text_of}
+use Rattle.dart_sites.specs.Refusals.{rule_line, limit_line, missing, entry_line, check_text}
 use Rattle.dart_sites.specs.declared.source.Refusal.{Refusal}
 use Rattle.dart_sites.specs.Source.{IsSource, IsTreeOf, NoTree, IsRefused, refusal_line}
 use Rattle.dart_sites.specs.Outside.{HasWritten, ReadAll}
-use Rattle.dart_sites.specs.Words.{Request, check, listing, run, Asks}
-use Rattle.dart_sites.specs.Texts.{Says}
+use Rattle.dart_sites.specs.Runs.{means, is_done, text_of_run}
+use Rattle.dart_sites.specs.Words.{Asks, texts, entries}
+use Rattle.dart_sites.specs.declared.words.Request.{Request}
+use Rattle.dart_sites.specs.declared.words.Request.TheVariants as request
 use Rattle.dart_sites.specs.declared.telling.Outcome.{Outcome}
 use Rattle.dart_sites.specs.declared.telling.Outcome.TheVariants as outcome
 use Rattle.dart_sites.specs.declared.status.Status.{Status}
 use Rattle.dart_sites.specs.declared.status.Status.TheVariants as status
+
+-- ---- what a request says of the bytes that were read
+
+-- the text of `check` of a source: what it counts
+pub record CheckSays (input text : List ℕ) (all_done : Bool) : Type 0 where
+  pub tree : Tree
+  pub source : IsSource input tree
+  pub accepted : rules.IsAccepted tree
+  pub text_is : text ≡ check_text (counts tree)
+  pub done_is : all_done ≡ true
+
+-- the text of `list` of a source: the classes and the sites of its numbered program
+pub record ListSays (input text : List ℕ) (all_done : Bool) : Type 0 where
+  pub tree : Tree
+  pub source : IsSource input tree
+  pub accepted : rules.IsAccepted tree
+  pub program : Parts
+  pub numbered : IsNumberedOf input tree program
+  pub text_is : text ≡ list_text_of program
+  pub done_is : all_done ≡ true
+
+-- The text of `run` of a source, and whether each entry that is named was done. What an entry does is its meaning in the tree.
+pub record RunSays (turns : ℕ) (names : List (List ℕ)) (input text : List ℕ) (all_done : Bool) : Type 0 where
+  pub tree : Tree
+  pub source : IsSource input tree
+  pub accepted : rules.IsAccepted tree
+  pub program : Parts
+  pub numbered : IsNumberedOf input tree program
+  pub meanings : List Meaning
+  pub each_means : map (means tree turns) names ≡ map Some meanings
+  pub text_is : text ≡ text_of_run program names meanings
+  pub done_is : all_done ≡ list_all (λ (m : Meaning). is_done m.ending) meanings
+
+-- the text that a request defines for the bytes, and whether each of its entries was done
+abbrev pub Says : Request → List ℕ → List ℕ → Bool → Type 0
+Says request.Check input text all_done = CheckSays input text all_done
+Says request.List input text all_done = ListSays input text all_done
+Says (request.Run turns names) input text all_done = RunSays turns (texts names.now) input text all_done
 
 -- ---- why the bytes are refused, with this line
 
@@ -27,22 +72,16 @@ pub record NoSource (input line : List ℕ) : Type 0 where
   pub refused : IsRefused input why
   pub line_is : line ≡ refusal_line input why
 
--- the entries that a request names
-abbrev pub entries : Request → List (List ℕ)
-entries check = []
-entries listing = []
-entries (run turns names) = names
-
--- The tree breaks a rule; or it is accepted, and an entry that is named, the first such, is none.
-pub data WrongNames (request : Request) (tree : Tree) (input line : List ℕ) : Type 0 where
-  breaks : {rule : Rule} {at : Span} → failing tree ≡ Some (rule, at) → line ≡ rule_line input rule at → WrongNames request tree input line
-  no_entry : {name : List ℕ} → rules.IsAccepted tree → missing tree (entries request) ≡ Some name → line ≡ entry_line name → WrongNames request tree input line
+-- the tree breaks a rule; or it is accepted, and a name that is asked for is that of no entry point
+pub data WrongNames (asked : Request) (tree : Tree) (input line : List ℕ) : Type 0 where
+  breaks : {rule : Rule} {at : Span} → failing tree ≡ Some (rule, at) → line ≡ rule_line input rule at → WrongNames asked tree input line
+  no_entry : {name : List ℕ} → rules.IsAccepted tree → missing tree (entries asked) ≡ Some name → line ≡ entry_line name → WrongNames asked tree input line
 
 -- they are a source, whose names are refused
-pub record NamesRefused (request : Request) (input line : List ℕ) : Type 0 where
+pub record NamesRefused (asked : Request) (input line : List ℕ) : Type 0 where
   pub tree : Tree
   pub tree_of : IsTreeOf input tree
-  pub wrong : WrongNames request tree input line
+  pub wrong : WrongNames asked tree input line
 
 -- they are a source that breaks no rule, and a count is over its limit
 pub record OverLimit (input line : List ℕ) : Type 0 where
@@ -56,21 +95,21 @@ pub record OverLimit (input line : List ℕ) : Type 0 where
 
 -- what came of the bytes
 abbrev pub OutcomeSays : Request → List ℕ → Outcome → Type 0
-OutcomeSays request input (outcome.Told told) = Says request input told.text.items told.all_done
-OutcomeSays request input (outcome.NoSource line) = NoSource input line.items
-OutcomeSays request input (outcome.WrongNames line) = NamesRefused request input line.items
-OutcomeSays request input (outcome.OverLimit line) = OverLimit input line.items
-OutcomeSays request input outcome.NoMemory = Unit {0}
+OutcomeSays asked input (outcome.Told told) = Says asked input told.text.items told.all_done
+OutcomeSays asked input (outcome.NoSource line) = NoSource input line.items
+OutcomeSays asked input (outcome.WrongNames line) = NamesRefused asked input line.items
+OutcomeSays asked input (outcome.OverLimit line) = OverLimit input line.items
+OutcomeSays asked input outcome.NoMemory = Unit {0}
 
 -- ---- what was written
 
 -- the words are a request, all bytes that the source held were read, within the limit, and the request says this text of them
 pub record Defines (words : List (List ℕ)) (old left : Option (List ℕ)) (text : List ℕ) (all_done : Bool) : Type 0 where
-  pub request : Request
-  pub asks : Asks words request
+  pub asked : Request
+  pub asks : Asks words asked
   pub input : List ℕ
   pub read : ReadAll old left input
-  pub says : Says request input text all_done
+  pub says : Says asked input text all_done
 
 -- the defined text was written whole; its entries were all done, or not
 pub record WholeWritten (words : List (List ℕ)) (old left held holds : Option (List ℕ)) (all_done : Bool) : Type 0 where
@@ -123,19 +162,19 @@ pub record SourceRefused (why : List ℕ → List ℕ → Type 0) (old left held
 
 -- the same, of a request that the words are
 pub record RequestRefused (words : List (List ℕ)) (old left held holds : Option (List ℕ)) (before now : ℕ) : Type 0 where
-  pub request : Request
-  pub asks : Asks words request
-  pub refused : SourceRefused (NamesRefused request) old left held holds before now
+  pub asked : Request
+  pub asks : Asks words asked
+  pub refused : SourceRefused (NamesRefused asked) old left held holds before now
 
 -- ---- completeness
 
 -- the words are a request, and the source tells bytes that are accepted, with the entries that are named
 pub record IsAccepted (words : List (List ℕ)) (old : Option (List ℕ)) : Type 0 where
-  pub request : Request
-  pub asks : Asks words request
+  pub asked : Request
+  pub asks : Asks words asked
   pub tree : Tree
   pub accepted : rules.IsAccepted tree
-  pub entries : missing tree (entries request) ≡ None
+  pub named : missing tree (entries asked) ≡ None
   pub source : IsSomeAnd old (λ input. IsSource input tree × length input ≤ 1048576)
 
 -- the answers to what is accepted, where no read and no write fails

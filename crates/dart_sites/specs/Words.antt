@@ -1,9 +1,9 @@
 -- What the words of the command line ask for: a request, or none.
-use Rattle.std.specs.Prelude.{◌≡◌, ℕ, ◌≤◌, List, [], ◌∷◌, length, Bool, true, false, map, codes, String, string_bytes, if◌then◌else◌, ◌==◌, ◌+◌, ◌*◌, ◌-◌, ◌&&◌, fold, nat_le}
+use Rattle.std.specs.Prelude.{◌≡◌, ℕ, ◌≤◌, List, [], ◌∷◌, Bool, true, false, map, length, codes, String, string_bytes, if◌then◌else◌, ◌==◌, ◌+◌, ◌*◌, ◌-◌, ◌&&◌, fold, nat_le}
 use Rattle.std.specs.List.{list_all}
 use Rattle.std.specs.declared.alloc.Global.{Global}
-use Rattle.dart_sites.specs.declared.words.Command.{Command}
-use Rattle.dart_sites.specs.declared.words.Command.TheVariants.{Check, List as Listing, Run}
+use Rattle.dart_sites.specs.declared.words.Request.{Request}
+use Rattle.dart_sites.specs.declared.words.Request.TheVariants as request
 
 abbrev pub is_digit_byte : ℕ → Bool
 is_digit_byte b = nat_le 48 b && nat_le b 57
@@ -27,15 +27,7 @@ pub record IsNumber (text : List ℕ) (n : ℕ) : Type 0 where
 abbrev pub texts : List (String Global) → List (List ℕ)
 texts words = map string_bytes words
 
--- ---- requests
-
--- what words ask for: what the source counts; its classes and sites; or a run of these entries, one after the other, each with so many turns
-pub data Request : Type 0 where
-  check : Request
-  listing : Request
-  run : ℕ → List (List ℕ) → Request
-
--- run TURNS 1 ENTRY .., with 1 to 64 names
+-- run TURNS 1 ENTRY ..
 pub record AsksRun (words : List (List ℕ)) (turns : ℕ) (names : List (List ℕ)) : Type 0 where
   pub text : List ℕ
   pub words_are : words ≡ codes "run" ∷ text ∷ codes "1" ∷ names
@@ -47,31 +39,31 @@ pub record AsksRun (words : List (List ℕ)) (turns : ℕ) (names : List (List �
 
 -- the words ask for this request
 abbrev pub Asks : List (List ℕ) → Request → Type 0
-Asks words check = words ≡ codes "check" ∷ []
-Asks words listing = words ≡ codes "list" ∷ []
-Asks words (run turns names) = AsksRun words turns names
+Asks words request.Check = words ≡ codes "check" ∷ []
+Asks words request.List = words ≡ codes "list" ∷ []
+Asks words (request.Run turns names) = AsksRun words turns (texts names.now)
 
 -- the words ask for nothing
 abbrev pub NoRequest : List (List ℕ) → Type 0
 NoRequest words = (r : Request) → Asks words r → ⊥
 
--- the request that src/ reads
-abbrev pub request_of : Command → Request
-request_of Check = check
-request_of Listing = listing
-request_of (Run turns names) = run turns (texts names.now)
+-- the entries that a request names
+abbrev pub entries : Request → List (List ℕ)
+entries request.Check = []
+entries request.List = []
+entries (request.Run turns names) = texts names.now
 
--- a run has a number of turns and so many names as requests may have
-abbrev pub IsWithin : Command → Type 0
-IsWithin Check = Unit {0}
-IsWithin Listing = Unit {0}
-IsWithin (Run turns names) = (1 ≤ turns) × (turns ≤ 1000000000) × (length (texts names.now) ≤ 64)
+-- it keeps to the greatest number of turns and of entries
+abbrev pub IsWithin : Request → Type 0
+IsWithin request.Check = Unit {0}
+IsWithin request.List = Unit {0}
+IsWithin (request.Run turns names) = (turns ≤ 1000000000) × (length names.now ≤ 64)
 
 -- how many workers a request names
 abbrev pub workers : Request → ℕ
-workers check = 1
-workers listing = 1
-workers (run turns names) = 1
+workers request.Check = 1
+workers request.List = 1
+workers (request.Run turns names) = 1
 
 -- the words ask for a request with so many workers
 pub record AsksWorkers (words : List (List ℕ)) (count : ℕ) : Type 0 where

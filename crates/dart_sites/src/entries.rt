@@ -1,33 +1,35 @@
-// The entry points that names stand for.
+// Entry points by their names.
+ghost use Rattle.std.specs.Prelude.{IfOk};
 ghost use Rattle.dart_sites.specs.Words.{texts};
-ghost use Rattle.dart_sites.specs.Running.{EntriesSay};
+ghost use Rattle.dart_sites.specs.Runs.{FoundSays};
 
+use ds_base::NoMemory;
 use program::{EntryId, Numbered};
 use std::alloc::Global;
 
-/// What names stand for.
-pub enum Entries<'a> {
-    /// The entry point of each.
+/// What looking up names of entry points answers.
+#[derive(Drop)]
+pub enum Found<'a> {
+    /// The entry point of each name.
     All(Vec<EntryId>),
-    /// The first that is none.
+    /// The first name that is that of none.
     Missing(&'a String),
-    NoMemory,
 }
 
-/// The entry points of names, or the first name that is none.
-pub fn entries_of<'a>(alloc: Global, program: &Numbered, names: &'a [String]) -> Entries<'a>
-    ensures { EntriesSay program.now (texts names.now) result }
+/// The entry points of the names, from left to right.
+pub fn entries_of<'a>(
+    alloc: Global,
+    program: &Numbered,
+    names: &'a [String],
+) -> Result<Found<'a>, NoMemory>
+    ensures { IfOk result (FoundSays program.now (texts names.now)) }
 {
-    let mut all = Vec::new(alloc);
+    let mut entries = Vec::new(alloc);
     for name in names {
         match program.entry_of(name.as_str()) {
-            None => return Entries::Missing(name),
-            Some(entry) => {
-                if all.push(entry).is_err() {
-                    return Entries::NoMemory;
-                }
-            }
+            Some(entry) => entries.push(entry)?,
+            None => return Ok(Found::Missing(name)),
         }
     }
-    Entries::All(all)
+    Ok(Found::All(entries))
 }

@@ -2,8 +2,10 @@
 #![tactic(auto)]
 
 mod entries;
+mod places;
 mod reading;
 mod refusals;
+mod refusing;
 mod running;
 mod source;
 mod status;

@@ -3,9 +3,10 @@ ghost use Rattle.std.specs.Prelude.{◌≡◌, ◌≤◌, length, IfOk};
 ghost use Rattle.static_rules.specs.Accepted.{most};
 ghost use Rattle.dart_sites.specs.Refusals.{rule_name, rule_line, limit_name, limit_line, entry_line};
 
+use crate::places::push_place;
+use byte_texts::{push, push_number};
 use ds_base::NoMemory;
 use resolver::{Broken, Limit, Rule};
-use site_report::{push, push_number, push_place};
 use std::alloc::Global;
 
 fn rule_name(rule: Rule) -> &'static str
@@ -37,7 +38,7 @@ pub fn rule_line(alloc: Global, source: &[u8], broken: Broken) -> Result<Vec<u8>
     push(&mut line, b"refused: ")?;
     push(&mut line, rule_name(broken.rule).as_bytes())?;
     push(&mut line, b" at ")?;
-    push_place(alloc, &mut line, source, broken.span.start as usize)?;
+    push_place(&mut line, source, broken.span.start as usize)?;
     push(&mut line, b"\n")?;
     Ok(line)
 }
@@ -73,9 +74,9 @@ pub fn limit_line(alloc: Global, what: Limit, count: u64) -> Result<Vec<u8>, NoM
     push(&mut line, b"refused: LimitReached ")?;
     push(&mut line, limit_name(what).as_bytes())?;
     push(&mut line, b" ")?;
-    push_number(alloc, &mut line, count)?;
+    push_number(&mut line, count)?;
     push(&mut line, b" of ")?;
-    push_number(alloc, &mut line, most(what))?;
+    push_number(&mut line, most(what))?;
     push(&mut line, b"\n")?;
     Ok(line)
 }

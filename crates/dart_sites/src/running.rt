@@ -1,30 +1,26 @@
-// Runs entries of a numbered program, and tells what they did.
-ghost use Rattle.std.specs.Prelude.{◌≡◌, ◌≤◌, List, length, IfOk};
+// From the entries of a linked program to the text of `run`.
+ghost use Rattle.std.specs.Prelude.{◌≡◌, ◌≤◌, length, IfOk};
 ghost use Rattle.std.specs.List.{list_all};
 ghost use Rattle.program.specs.Program.{parts_of};
-ghost use Rattle.compiled.specs.Laws.{IsCompiled};
+ghost use Rattle.compiled_runs.specs.Compiled.{EachTakesNothing};
+ghost use Rattle.isolate_run.specs.declared.ended.Ended.{Ended as EndedEntry};
+ghost use Rattle.isolate_run.specs.Ran.{ending_of};
 ghost use Rattle.dart_sites.specs.Words.{texts};
-ghost use Rattle.dart_sites.specs.Running.{is_done, AreEntries, IsRun};
+ghost use Rattle.dart_sites.specs.Runs.{is_done, IsRunOf};
 
-use code_pool::CodePool;
-use compiler::compile;
+use crate::telling::Told;
+use call_cell::PlainCells;
+use compiled_runs::run_compiled;
 use ds_base::NoMemory;
-use group_runner::run_one;
+use group_runner::EndCells;
 use isolate_run::{Ended, Ending};
 use method_lookup::Linked;
 use program::EntryId;
 use site_report::run_text;
 use std::alloc::Global;
 
-/// The text of a request, and whether each of its entries ended done.
-#[derive(Drop)]
-pub struct Told {
-    pub text: Vec<u8>,
-    pub all_done: bool,
-}
-
 fn is_done(ending: &Ending) -> bool
-    ensures { result ≡ is_done ending.now }
+    ensures { result ≡ is_done (ending_of ending.now) }
 {
     match ending {
         Ending::Done => true,
@@ -32,21 +28,23 @@ fn is_done(ending: &Ending) -> bool
     }
 }
 
+/// Each of the entries ended done.
 fn all_done(ended: &[Ended]) -> bool
-    ensures { result ≡ list_all (λ e. is_done e.ending) ended.now }
+    ensures { result ≡ list_all (λ (e : EndedEntry). is_done (ending_of e.ending)) ended.now }
 {
     ended.iter().all(|e| is_done(&e.ending))
 }
 
-/// The code of a program.
-fn code_of(alloc: Global, linked: &Linked) -> Result<CodePool, NoMemory>
-    ensures { IfOk result (IsCompiled (parts_of linked.now.program)) }
+/// The cells of one worker.
+fn plain_of(cells: &EndCells) -> &PlainCells
+    ensures { cells.now ≡ EndCells.Plain result.now }
 {
-    let pool = compile(alloc, &linked.program)?;
-    Ok(pool)
+    match cells {
+        EndCells::Plain(cells) => cells,
+    }
 }
 
-/// Compiles a program, and runs these entries one after the other.
+/// Runs entries, and tells what they did.
 pub fn run_entries(
     alloc: Global,
     linked: &Linked,
@@ -54,16 +52,16 @@ pub fn run_entries(
     entries: &[EntryId],
     turns: u64,
 ) -> Result<Told, NoMemory>
-    requires some { 1 ≤ turns }
-    requires most { turns ≤ 1000000000 }
-    requires few { length names.now ≤ 64 }
-    requires entries { AreEntries linked.now.program (texts names.now) entries.now }
-    ensures { IfOk result (λ told. IsRun (parts_of linked.now.program) (texts names.now) entries.now turns told.text.items told.all_done) }
+    requires entries { EachTakesNothing (parts_of linked.now.program) entries.now }
+    requires names { length names.now ≡ length entries.now }
+    requires few { length entries.now ≤ 64 }
+    requires turns { turns ≤ 1000000000 }
+    ensures { IfOk result (λ told. IsRunOf (parts_of linked.now.program) entries.now turns (texts names.now) told.text.items told.all_done) }
 {
-    let pool = code_of(alloc, linked)?;
-    let end = run_one(alloc, linked, &pool, entries, turns)?;
+    let end = run_compiled(alloc, linked, entries, turns)?;
     let ended = end.ended.as_slice();
-    let text = run_text(alloc, linked, names, ended, &end.cells)?;
+    let cells = plain_of(&end.cells);
+    let text = run_text(alloc, linked, names, ended, cells)?;
     Ok(Told {
         text,
         all_done: all_done(ended),

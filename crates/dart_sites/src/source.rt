@@ -4,11 +4,12 @@ ghost use Rattle.dart_syntax.specs.declared.token.Token.{Token};
 ghost use Rattle.dart_syntax.specs.Tokens.{TokenList};
 ghost use Rattle.dart_sites.specs.Source.{kind_name, refusal_of, is_of_grammar, refusal_line, ReadSays};
 
+use crate::places::push_place;
+use byte_texts::push;
 use dart_lexer::{LexError, tokens};
 use dart_parser::{ParseError, parse};
 use dart_syntax::{Token, Tree};
 use ds_base::NoMemory;
-use site_report::{push, push_place};
 use std::alloc::Global;
 
 /// Why bytes are no source.
@@ -128,7 +129,7 @@ pub fn refusal_line(alloc: Global, source: &[u8], refusal: Refusal) -> Result<Ve
     push(&mut line, b"refused: ")?;
     push(&mut line, refusal.kind.name().as_bytes())?;
     push(&mut line, b" at ")?;
-    push_place(alloc, &mut line, source, refusal.at as usize)?;
+    push_place(&mut line, source, refusal.at as usize)?;
     push(&mut line, b"\n")?;
     Ok(line)
 }

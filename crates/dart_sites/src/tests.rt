@@ -12,18 +12,11 @@ const FIRST: &str = "class A { m() => 7; }\nmain() { print(A().m()); }\n";
 const FIRST_TEXT: &str =
     "entry 0 main\n7\nend done\nsites 3\n0 m/0 2:20 calls 1 mono A -> A.m\n1 toString/0 print calls 1 mono int -> int.toString\n2 toString/0 list calls 0 unlinked\n";
 
+const TWICE_TEXT: &str =
+    "entry 0 main\n7\nend done\nentry 1 main\n7\nend done\nsites 3\n0 m/0 2:20 calls 2 mono A -> A.m\n1 toString/0 print calls 2 mono int -> int.toString\n2 toString/0 list calls 0 unlinked\n";
+
 const TWO_TURNS_TEXT: &str =
     "entry 0 main\nend out of turns\nsites 3\n0 m/0 2:20 calls 1 mono A -> A.m\n1 toString/0 print calls 0 unlinked\n2 toString/0 list calls 0 unlinked\n";
-
-const LIST_TEXT: &str =
-    "class 0 Object parent - last 7\nclass 1 Null parent 0 last 1\nclass 2 bool parent 0 last 2\nclass 3 int parent 0 last 3\nclass 4 String parent 0 last 4\nclass 5 List parent 0 last 5\nclass 6 Invocation parent 0 last 6\nclass 7 A parent 0 last 7\nsite 0 m/0 2:20\nsite 1 toString/0 print\nsite 2 toString/0 list\n";
-
-/// Two entries over the same cells: the first calls a site on one class, the second on another.
-const TWO: &str =
-    "class A { m() => 1; }\nclass B { m() => 2; }\nf(o) => print(o.m());\nmain() { f(A()); }\n@pragma('vm:entry-point')\nother() { f(B()); throw 'x'; }\n";
-
-const TWO_TEXT: &str =
-    "entry 0 main\n1\nend done\nentry 1 other\n2\nend threw Thrown x\nentry 2 main\n1\nend done\nsites 3\n0 m/0 3:17 calls 3 cached A -> A.m, B -> B.m\n1 toString/0 print calls 3 mono int -> int.toString\n2 toString/0 list calls 0 unlinked\n";
 
 fn words_of<R: AllocGlobal>(rt: &R, line: &str) -> Result<Vec<String>, Fail> {
     let alloc = rt.alloc();
@@ -67,40 +60,20 @@ fn expect<R: Threads + Sync + Abort + AllocGlobal>(
 }
 
 #[test]
-fn runs_the_first_program_and_tells_faults(rt: HostRuntime) -> Result<(), Fail> {
+fn runs_entries_and_tells_faults(rt: HostRuntime) -> Result<(), Fail> {
     let first = FIRST.as_bytes();
     let run = "run 100 1 main";
-    let text = FIRST_TEXT.as_bytes();
-    expect(&rt, run, first, &[], &[], Status::Done, text)?;
-    let two_turns = TWO_TURNS_TEXT.as_bytes();
-    expect(
-        &rt,
-        "run 2 1 main",
-        first,
-        &[],
-        &[],
-        Status::EntryFault,
-        two_turns,
-    )?;
+    for (line, status, text) in [
+        (run, Status::Done, FIRST_TEXT),
+        ("run 3 1 main main", Status::Done, TWICE_TEXT),
+        ("run 2 1 main", Status::EntryFault, TWO_TURNS_TEXT),
+    ] {
+        expect(&rt, line, first, &[], &[], status, text.as_bytes())?;
+    }
     expect(&rt, run, first, &[], &[1], Status::WriteFault, b"entr")?;
-    expect(
-        &rt,
-        run,
-        first,
-        &[0],
-        &[],
-        Status::ReadFault,
-        b"fault: read\n",
-    )?;
+    let read = b"fault: read\n";
+    expect(&rt, run, first, &[0], &[], Status::ReadFault, read)?;
     expect(&rt, run, first, &[0], &[0], Status::ReadFault, b"")
-}
-
-#[test]
-fn runs_entries_one_after_the_other(rt: HostRuntime) -> Result<(), Fail> {
-    let two = TWO.as_bytes();
-    let run = "run 100 1 main other main";
-    let text = TWO_TEXT.as_bytes();
-    expect(&rt, run, two, &[], &[], Status::EntryFault, text)
 }
 
 #[test]
@@ -131,9 +104,8 @@ fn refuses_words_and_reads_nothing(rt: HostRuntime) -> Result<(), Fail> {
         )?;
         assert_eq!(&rt; workers_of(words_of(&rt, line)?.as_slice()), None);
     }
-    for line in ["run 1 1 main", "run 1 1 main other main", "check", "list"] {
-        assert_eq!(&rt; workers_of(words_of(&rt, line)?.as_slice()), Some(1));
-    }
+    let words = words_of(&rt, "run 1 1 main")?;
+    assert_eq!(&rt; workers_of(words.as_slice()), Some(1));
     Ok(())
 }
 
@@ -169,27 +141,19 @@ fn refuses_what_is_no_source(rt: HostRuntime) -> Result<(), Fail> {
 
 #[test]
 fn refuses_names(rt: HostRuntime) -> Result<(), Fail> {
-    for (text, held) in [
-        ("", "refused: no entry point main\n"),
+    for (line, text, held) in [
+        ("run 100 1 main", "", "refused: no entry point main\n"),
         (
-            "class A { m() => 7; } main() { print(B().m()); }",
-            "refused: UndefinedName at 1:38\n",
+            "run 100 1 main f g",
+            "main() {} f() {}",
+            "refused: no entry point f\n",
         ),
         (
+            "run 100 1 main",
             "class A { m() => 7; m() => 8; } main() { print(A().m()); }",
             "refused: DuplicateName at 1:21\n",
         ),
-        (
-            "class A { length() => 7; } main() { print(A().length()); }",
-            "refused: MixedName at 1:11\n",
-        ),
-        (
-            "class A { m() => 7; } main() { print(A().m(), 1); }",
-            "refused: WrongArgumentsOfStatic at 1:32\n",
-        ),
-        ("main() {} other() {}", "refused: no entry point other\n"),
     ] {
-        let line = "run 100 1 main other another";
         expect(
             &rt,
             line,
@@ -206,17 +170,20 @@ fn refuses_names(rt: HostRuntime) -> Result<(), Fail> {
 /// What `check` writes where the source has nothing.
 const NOTHING: &[u8] = b"ok classes 7 methods 49 selectors 1 sites 2\n";
 
+/// What `list` writes of the first source.
+const FIRST_LIST: &[u8] =
+    b"class 0 Object parent - last 7\nclass 1 Null parent 0 last 1\nclass 2 bool parent 0 last 2\nclass 3 int parent 0 last 3\nclass 4 String parent 0 last 4\nclass 5 List parent 0 last 5\nclass 6 Invocation parent 0 last 6\nclass 7 A parent 0 last 7\nsite 0 m/0 2:20\nsite 1 toString/0 print\nsite 2 toString/0 list\n";
+
 #[test]
-fn checks_sources(rt: HostRuntime) -> Result<(), Fail> {
+fn checks_and_lists_sources(rt: HostRuntime) -> Result<(), Fail> {
     let first = FIRST.as_bytes();
     let counts = b"ok classes 8 methods 50 selectors 2 sites 3\n";
     expect(&rt, "check", first, &[], &[], Status::Done, counts)?;
+    expect(&rt, "list", first, &[], &[], Status::Done, FIRST_LIST)?;
     expect(&rt, "check", b"", &[], &[], Status::Done, NOTHING)?;
     let twice = b"main() {} main() {}";
     let refused = b"refused: DuplicateName at 1:11\n";
     expect(&rt, "check", twice, &[], &[], Status::NameRefused, refused)?;
-    let list = LIST_TEXT.as_bytes();
-    expect(&rt, "list", first, &[], &[], Status::Done, list)?;
     let no_entry = "run 10 1 main";
     expect(&rt, no_entry, b"", &[], &[0], Status::NameRefused, b"")
 }
@@ -246,54 +213,4 @@ fn reads_up_to_the_limit(rt: HostRuntime) -> Result<(), Fail> {
         Status::Done,
         NOTHING,
     )
-}
-
-/// A source with so many methods, each called once.
-fn many_methods<R: AllocGlobal>(rt: &R, count: u64) -> Result<String, Fail> {
-    let alloc = rt.alloc();
-    let mut text = String::from_str(alloc, "class A{")?;
-    for number in 0..count {
-        let method = format!(in alloc; "m{number}()=>{number};")?;
-        text.push_str(method.as_str())?;
-    }
-    text.push_str("}main(){")?;
-    for number in 0..count {
-        let print = format!(in alloc; "print(A().m{number}());")?;
-        text.push_str(print.as_str())?;
-    }
-    text.push_str("}")?;
-    Ok(text)
-}
-
-#[test]
-fn runs_a_thousand_methods(rt: HostRuntime) -> Result<(), Fail> {
-    let alloc = rt.alloc();
-    for (count, turns, status) in [
-        (1000, "run 2001 1 main", Status::Done),
-        (1000, "run 2000 1 main", Status::EntryFault),
-    ] {
-        let text = many_methods(&rt, count)?;
-        let words = words_of(&rt, turns)?;
-        let bytes = text.as_bytes().to_vec(alloc)?;
-        let mut source = MemorySource::build(bytes, Vec::new(alloc), 65_536);
-        let mut sink = MemorySink::build(alloc, 1_048_576, Vec::new(alloc), 1_000)
-            .ok()
-            .ok_or("memory")?;
-        let answer = dart_sites_main(
-            &rt,
-            alloc,
-            words.as_slice(),
-            &mut source,
-            &mut sink,
-            &OpenGate,
-        );
-        assert_eq!(&rt; answer, status, "{count}");
-        if answer == Status::Done {
-            assert!(&rt;
-                sink.bytes()
-                    .ends_with(b"1001 toString/0 list calls 0 unlinked\n")
-            );
-        }
-    }
-    Ok(())
 }

@@ -7,9 +7,8 @@ ghost use Rattle.dart_sites.specs.Words.{NoRequest, texts};
 ghost use Rattle.dart_sites.specs.Top.{WholeWritten, PartWritten, CutShort, NoSource, OverLimit, SourceRefused, RequestRefused, LineWritten, RefusalWritten, IsAccepted, IsRunAnswer, IsFinish};
 
 use crate::reading::{Input, read_all};
-use crate::running::Told;
 use crate::status::Status;
-use crate::telling::{Outcome, tell};
+use crate::telling::{Outcome, Told, tell};
 use crate::words::read_request;
 use crate::writing::write_all;
 use ds_base::{Gate, Sink, Source};
@@ -23,8 +22,8 @@ pub fn dart_sites_one<S: Source, K: Sink>(
     source: &mut S,
     sink: &mut K,
 ) -> Status
-    // The text that the request defines for the bytes read is written: each entry's lines and ending are those of the meaning of the source's
-    // tree, with lookup at every call; each site's count is that of the calls that asked it; its state is the fold over the classes called there.
+    // The text that the request defines for the bytes read is written: the entry's lines and ending are those of its meaning, with lookup at
+    // every call; each site's count is that of the calls that asked it; its state is the fold over the classes called there.
     ensures done { result ≡ Status.Done → WholeWritten (texts words.now) (S.rest source.old) (S.rest source.new) (K.written sink.old) (K.written sink.new) true }
     ensures entry_fault { result ≡ Status.EntryFault → WholeWritten (texts words.now) (S.rest source.old) (S.rest source.new) (K.written sink.old) (K.written sink.new) false }
 
@@ -46,7 +45,7 @@ pub fn dart_sites_one<S: Source, K: Sink>(
     // What is accepted is run, where no read and no write fails, or memory is wanting.
     ensures complete { IsAccepted (texts words.now) (S.rest source.old) → ¬ Rose (S.faults source.old) (S.faults source.new) → ¬ Rose (K.faults sink.old) (K.faults sink.new) → IsRunAnswer result }
 {
-    let Some(command) = read_request(words) else {
+    let Some(request) = read_request(words) else {
         return refuse(sink, b"refused: words\n", Status::BadWords);
     };
     match read_all(alloc, source) {
@@ -57,7 +56,7 @@ pub fn dart_sites_one<S: Source, K: Sink>(
             b"refused: more than 1048576 bytes\n",
             Status::TooLarge,
         ),
-        Input::Bytes(bytes) => match tell(alloc, command, bytes.as_slice()) {
+        Input::Bytes(bytes) => match tell(alloc, request, bytes.as_slice()) {
             Outcome::NoMemory => refuse(sink, b"fault: memory\n", Status::NoMemory),
             Outcome::NoSource(line) => refuse(sink, line.as_slice(), Status::SyntaxRefused),
             Outcome::WrongNames(line) => refuse(sink, line.as_slice(), Status::NameRefused),
@@ -76,8 +75,8 @@ pub fn dart_sites_main<R: Threads + Sync, S: Source, K: Sink, G: Gate>(
     sink: &mut K,
     _gate: &G,
 ) -> Status
-    // The text that the request defines for the bytes read is written: each entry's lines and ending are those of the meaning of the source's
-    // tree, with lookup at every call; each site's count is that of the calls that asked it; its state is the fold over the classes called there.
+    // The text that the request defines for the bytes read is written: the entry's lines and ending are those of its meaning, with lookup at
+    // every call; each site's count is that of the calls that asked it; its state is the fold over the classes called there.
     ensures done { result ≡ Status.Done → WholeWritten (texts words.now) (S.rest source.old) (S.rest source.new) (K.written sink.old) (K.written sink.new) true }
     ensures entry_fault { result ≡ Status.EntryFault → WholeWritten (texts words.now) (S.rest source.old) (S.rest source.new) (K.written sink.old) (K.written sink.new) false }
 

@@ -1,16 +1,17 @@
 // What the words of the command line ask for.
 ghost use Rattle.std.specs.Prelude.{◌≡◌, ◌≤◌, ◌<◌, ◌-◌, ◌^◌, ℕ, ◌∷◌, [], MatchOption, min, true, string_bytes};
-ghost use Rattle.dart_sites.specs.Words.{Asks, AsksWorkers, NoRequest, IsNumber, is_plain, is_digit_byte, digits_value, texts, request_of};
+ghost use Rattle.dart_sites.specs.Words.{Asks, AsksWorkers, NoRequest, IsNumber, is_plain, is_digit_byte, digits_value, texts};
 ghost use Rattle.std.specs.List.{list_all};
+ghost use Rattle.dart_sites.specs.declared.words.Request.{Request};
 
 /// What the words ask for.
 #[derive(Clone, Copy)]
-pub enum Command<'a> {
+pub enum Request<'a> {
     /// `check`: what the source counts.
     Check,
     /// `list`: its classes and its call sites.
     List,
-    /// `run TURNS 1 ENTRY ..`: these entries, one after the other, with 1 to 1,000,000,000 turns each.
+    /// `run TURNS 1 ENTRY ..`: these entries, 1 to 64, with 1 to 1,000,000,000 turns each.
     Run { turns: u64, names: &'a [String] },
 }
 
@@ -63,16 +64,14 @@ fn is_plain(text: &[u8]) -> bool
 }
 
 /// The request of a command that stands alone.
-fn read_alone<'a>(command: &String) -> Option<Command<'a>>
-    ensures { MatchOption result (NoRequest (string_bytes command.now ∷ [])) (λ r. Asks (string_bytes command.now ∷ []) (request_of r)) }
+fn read_alone<'a>(command: &String) -> Option<Request<'a>>
+    ensures { MatchOption result (NoRequest (string_bytes command.now ∷ [])) (λ r. Asks (string_bytes command.now ∷ []) r) }
 {
-    if command.as_str() == "check" {
-        return Some(Command::Check);
+    match command.as_str() {
+        "check" => Some(Request::Check),
+        "list" => Some(Request::List),
+        _ => None,
     }
-    if command.as_str() == "list" {
-        return Some(Command::List);
-    }
-    None
 }
 
 /// The request of a command with turns, workers and entries.
@@ -81,23 +80,26 @@ fn read_run<'a>(
     turns: &String,
     workers: &String,
     names: &'a [String],
-) -> Option<Command<'a>>
-    ensures { MatchOption result (NoRequest (string_bytes command.now ∷ string_bytes turns.now ∷ string_bytes workers.now ∷ texts names.now))
-        (λ r. Asks (string_bytes command.now ∷ string_bytes turns.now ∷ string_bytes workers.now ∷ texts names.now) (request_of r)) }
+) -> Option<Request<'a>>
+    ensures { MatchOption result (NoRequest (string_bytes command.now ∷ string_bytes turns.now ∷ string_bytes workers.now ∷ texts names.now)) (λ r. Asks (string_bytes command.now ∷ string_bytes turns.now ∷ string_bytes workers.now ∷ texts names.now) r) }
 {
-    if command.as_str() != "run" || workers.as_str() != "1" {
+    if command.as_str() != "run"
+        || workers.as_str() != "1"
+        || names.is_empty()
+        || names.len() > 64
+    {
         return None;
     }
     let turns = number(turns.as_str().as_bytes())?;
-    if turns < 1 || turns > 1_000_000_000 || names.len() < 1 || names.len() > 64 {
+    if turns < 1 || turns > 1_000_000_000 {
         return None;
     }
-    Some(Command::Run { turns, names })
+    Some(Request::Run { turns, names })
 }
 
 /// The request of the words.
-pub fn read_request<'a>(words: &'a [String]) -> Option<Command<'a>>
-    ensures { MatchOption result (NoRequest (texts words.now)) (λ r. Asks (texts words.now) (request_of r)) }
+pub fn read_request(words: &[String]) -> Option<Request<'_>>
+    ensures { MatchOption result (NoRequest (texts words.now)) (λ r. Asks (texts words.now) r) }
 {
     match words {
         [command] => read_alone(command),
@@ -111,7 +113,7 @@ pub fn workers_of(words: &[String]) -> Option<u32>
     ensures { MatchOption result (NoRequest (texts words.now)) (λ count. AsksWorkers (texts words.now) count) }
 {
     match read_request(words) {
-        Some(Command::Check | Command::List | Command::Run { .. }) => Some(1),
+        Some(Request::Check | Request::List | Request::Run { .. }) => Some(1),
         None => None,
     }
 }

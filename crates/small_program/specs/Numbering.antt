@@ -26,6 +26,7 @@ use Rattle.small_program.specs.declared.small.Small.{Small}
 
 -- ---- classes and methods: the first class has the number 7 and stands below Object
 
+-- a class without fields, directly below class `up`
 abbrev pub class_below : ℕ → List ℕ → Class
 class_below up name = built_in_class name (Some (record { 0 = up }))
 
@@ -34,6 +35,7 @@ abbrev pub chain_below : ℕ → ℕ → List SmallClass → List Class
 chain_below up c [] = []
 chain_below up c (k ∷ more) = class_below up k.name ∷ chain_below c (suc c) more
 
+-- the built-in classes, and then a chain below Object
 abbrev pub classes_of : Small → List Class
 classes_of s = built_in_classes ++ chain_below 0 7 s.classes
 
@@ -53,14 +55,17 @@ abbrev pub methods_from : ℕ → List SmallClass → List Method
 methods_from c [] = []
 methods_from c (k ∷ more) = map (method_of c) k.methods ++ methods_from (suc c) more
 
+-- the built-in members, and then the methods of each class
 abbrev pub methods_of : Small → List Method
 methods_of s = built_in_members ++ methods_from 7 s.classes
 
 -- ---- selectors, by first use
 
+-- a call of this method, without arguments
 abbrev pub call_selector : List ℕ → Selector
 call_selector name = record { kind = Call; name = name; count = 0 }
 
+-- the selector calls a method of this name
 abbrev pub has_name : List ℕ → Selector → Bool
 has_name name sel = bytes_eq sel.name name
 
@@ -68,13 +73,16 @@ has_name name sel = bytes_eq sel.name name
 abbrev pub noted : List Selector → List ℕ → List Selector
 noted all name = if list_any (has_name name) all then all else all ++ call_selector name ∷ []
 
+-- the selectors after calls of these names
 abbrev pub noted_all : List Selector → List (List ℕ) → List Selector
 noted_all all [] = all
 noted_all all (name ∷ more) = noted_all (noted all name) more
 
+-- what the calls of `main` name, and then what the prelude's two sites call
 abbrev pub names_called : List SmallPrint → List (List ℕ)
 names_called prints = map (λ (p : SmallPrint). p.method) prints ++ codes "toString" ∷ []
 
+-- each selector once, in the order of its first call
 abbrev pub selectors_of : Small → List Selector
 selectors_of s = noted_all [] (names_called s.prints)
 
@@ -84,15 +92,19 @@ number_in all name = unwrap_or (position (has_name name) all) 0
 
 -- ---- sites: one for each `print`, and then those of the prelude
 
+-- a site at a place, with the selector for a call of this name
 abbrev pub site_of : List Selector → SitePlace → List ℕ → Site
 site_of all at name = record { selector = record { 0 = number_in all name }; place = at }
 
+-- the site of the call inside of a `print`
 abbrev pub print_site : List Selector → SmallPrint → Site
 print_site all p = site_of all (place.At p.line p.column) p.method
 
+-- the sites of `main`, and then those of `print` and of a list's text
 abbrev pub sites_with : List Selector → List SmallPrint → List Site
 sites_with all prints = map (print_site all) prints ++ site_of all place.Print (codes "toString") ∷ site_of all place.List (codes "toString") ∷ []
 
+-- the sites of the program by their numbers
 abbrev pub sites_of : Small → List Site
 sites_of s = sites_with (selectors_of s) s.prints
 
@@ -111,10 +123,12 @@ abbrev pub statements_from : ℕ → List SmallPrint → List Statement
 statements_from j [] = []
 statements_from j (p ∷ more) = statement_of j p ∷ statements_from (suc j) more
 
+-- the one function, with a statement for each `print`
 abbrev pub main_of : Small → Function
 main_of s = record { name = codes "main"; is_entry = false; required = 0; defaults = []; body = body.Block (statements_from 0 s.prints) }
 
 -- ---- the whole
 
+-- the lists of the program
 abbrev pub parts_of_small : Small → Parts
 parts_of_small s = parts (classes_of s) (methods_of s) (main_of s ∷ []) (selectors_of s) (sites_of s) []

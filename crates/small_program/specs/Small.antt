@@ -13,6 +13,7 @@ pub record IsSmallMethod (m : SmallMethod) : Type 0 where
   pub text : IsAscii m.name
   pub named : m.name ≢ codes "noSuchMethod"
 
+-- two methods of one name, which no class may have
 abbrev pub same_name : SmallMethod → SmallMethod → Bool
 same_name a b = bytes_eq a.name b.name
 

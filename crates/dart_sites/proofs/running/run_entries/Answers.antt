@@ -1,60 +1,66 @@
-use Rattle.std.proofs.Common.{◌≡◌, ◌∙◌, ap, sym, subst, arith, length, map}
-use Rattle.std.proofs.lemmas.List.{length-map}
-use Rattle.std.specs.Prelude.{string_bytes}
-use Rattle.program.specs.declared.ids.EntryId.{EntryId}
+use Rattle.std.proofs.Common.{length, ap, sym, subst, ◌∙◌, arith}
+use Rattle.std.specs.List.{list_all}
+use Rattle.program.specs.Parts.{Parts}
 use Rattle.program.specs.Program.{parts_of}
-use Rattle.method_lookup.specs.declared.linked.Linked.{Linked}
-use Rattle.miss_handler.specs.Sites.{IsNamed}
 use Rattle.call_cell.specs.Plain.{kept}
-use Rattle.group_runner.specs.Group.{meaning_at, meanings}
-use Rattle.site_report.specs.Ended.{AreEnded}
-use Rattle.site_report.proofs.Ends.{counts_of, length_of}
-use Rattle.site_report.proofs.Cells.{named_cells, alone_cells}
+use Rattle.isolate_run.specs.declared.ended.Ended.{Ended}
+use Rattle.isolate_run.specs.Ran.{ending_of}
+use Rattle.site_report.specs.Report.{AreCounted, told_by, count_at, report_text}
 use Rattle.dart_sites.specs.Words.{texts}
-use Rattle.dart_sites.proofs.Named.{as_many}
-use Rattle.dart_sites.proofs.Runs.{worth, can_all, meant_all, ended_as, done_as}
+use Rattle.dart_sites.specs.Runs.{is_done}
+use Rattle.dart_sites.proofs.EntryNames.{meant, as_many_meant}
+use Rattle.dart_sites.proofs.Reports.{tells_as_many, each_counted, each_done, text_same, states_named, one_alone}
 use Rattle.dart_sites.proofs.running.run_entries.Goals as goal
 
-pub run_one-requires-clause-runs : goal.run_one-requires-clause-runs
-run_one-requires-clause-runs c =
-    let p = c.args.linked.now.program in
-    let is_worth = worth p c.in_ok-pool.pool c.in_ok-pool.ensures c.args.turns c.requires.most in
-    can_all p c.in_ok-pool.pool c.args.turns is_worth (texts c.args.names.now) c.args.entries.now c.requires.entries
+pub run_text-requires-clause-as_many : goal.run_text-requires-clause-as_many
+run_text-requires-clause-as_many c =
+    let p = parts_of c.args.linked.now.program in
+    let ms = meant p c.args.turns c.args.entries.now c.requires.entries in
+    let ended = c.in_ok-end.ensures ms.0 ms.1 in
+    let same = ap length c.as_slice-ended.ensures.value in
+    omega (arith, c.requires.names, as_many_meant p c.args.turns c.args.entries.now ms.0 ms.1, tells_as_many p ms.0 c.in_ok-end.end.ended.items ended.ended, same)
 
-pub run_text-requires-clause-names : goal.run_text-requires-clause-names
-run_text-requires-clause-names c =
-    let p = c.args.linked.now.program in
-    let ms = meanings (parts_of p) c.in_ok-pool.pool c.args.turns c.args.entries.now in
-    let left = length_of ms (length p.sites) c.in_ok-end.end.ended.items (ended_as ms (length p.sites) c.in_ok-end.end.ended.items c.in_ok-end.ensures.ended) in
-    sym (length-map c.args.names.now string_bytes)
-    ∙ as_many p (texts c.args.names.now) c.args.entries.now c.requires.entries
-    ∙ sym (length-map c.args.entries.now (λ (e : EntryId). meaning_at (parts_of p) c.in_ok-pool.pool c.args.turns e.0))
-    ∙ sym left
-    ∙ ap length (sym c.as_slice-ended.ensures.value)
-
-pub run_text-requires-clause-entries : goal.run_text-requires-clause-entries
-run_text-requires-clause-entries c = omega (arith, sym (run_text-requires-clause-names c), c.requires.few)
+pub run_text-requires-clause-few : goal.run_text-requires-clause-few
+run_text-requires-clause-few c =
+    let p = parts_of c.args.linked.now.program in
+    let ms = meant p c.args.turns c.args.entries.now c.requires.entries in
+    let ended = c.in_ok-end.ensures ms.0 ms.1 in
+    let same = ap length c.as_slice-ended.ensures.value in
+    omega (arith, c.requires.few, as_many_meant p c.args.turns c.args.entries.now ms.0 ms.1, tells_as_many p ms.0 c.in_ok-end.end.ended.items ended.ended, same)
 
 pub run_text-requires-clause-counted : goal.run_text-requires-clause-counted
 run_text-requires-clause-counted c =
-    let p = c.args.linked.now.program in
-    let ms = meanings (parts_of p) c.in_ok-pool.pool c.args.turns c.args.entries.now in
-    let ended = ended_as ms (length p.sites) c.in_ok-end.end.ended.items c.in_ok-end.ensures.ended in
-    counts_of ms (length p.sites) c.as_slice-ended.result.now (subst (AreEnded ms (length p.sites)) (sym c.as_slice-ended.ensures.value) ended)
+    let p = parts_of c.args.linked.now.program in
+    let ms = meant p c.args.turns c.args.entries.now c.requires.entries in
+    let ended = c.in_ok-end.ensures ms.0 ms.1 in
+    subst (AreCounted p) (sym c.as_slice-ended.ensures.value) (each_counted p ms.0 c.in_ok-end.end.ended.items ended.ended)
+
+pub run_text-requires-clause-sites : goal.run_text-requires-clause-sites
+run_text-requires-clause-sites c =
+    let p = parts_of c.args.linked.now.program in
+    let ms = meant p c.args.turns c.args.entries.now c.requires.entries in
+    let ended = c.in_ok-end.ensures ms.0 ms.1 in
+    ap (λ (q : Parts). length q.sites) (one_alone p ms.0 c.in_ok-end.end c.plain_of-cells.result.now c.plain_of-cells.ensures ended).program
 
 pub run_text-requires-clause-named : goal.run_text-requires-clause-named
-run_text-requires-clause-named c s low =
-    subst (λ (l : Linked). IsNamed (length l.program.classes) ((kept c.in_ok-end.end.cells).site s).state) c.in_ok-end.ensures.made (named_cells c.in_ok-end.end.cells s)
+run_text-requires-clause-named c =
+    let p = parts_of c.args.linked.now.program in
+    let ms = meant p c.args.turns c.args.entries.now c.requires.entries in
+    let ended = c.in_ok-end.ensures ms.0 ms.1 in
+    states_named p _ c.plain_of-cells.result.now (one_alone p ms.0 c.in_ok-end.end c.plain_of-cells.result.now c.plain_of-cells.ensures ended)
 
 pub returns : goal.returns
 returns c =
-    let p = c.args.linked.now.program in
-    let ms = meanings (parts_of p) c.in_ok-pool.pool c.args.turns c.args.entries.now in
-    let is_worth = worth p c.in_ok-pool.pool c.in_ok-pool.ensures c.args.turns c.requires.most in
-    let ended = subst (AreEnded ms (length p.sites)) (sym c.as_slice-ended.ensures.value) (ended_as ms (length p.sites) c.in_ok-end.end.ended.items c.in_ok-end.ensures.ended) in
+    let p = parts_of c.args.linked.now.program in
+    let ms = meant p c.args.turns c.args.entries.now c.requires.entries in
+    let ended = c.in_ok-end.ensures ms.0 ms.1 in
+    let cells = c.plain_of-cells.result.now in
+    let alone = one_alone p ms.0 c.in_ok-end.end cells c.plain_of-cells.ensures ended in
     record {
-      meanings = ms;
-      meant = meant_all p c.in_ok-pool.pool c.args.turns is_worth (texts c.args.names.now) c.args.entries.now c.requires.entries;
-      text_is = c.in_ok-text.ensures.alone ms ended (alone_cells (parts_of p) c.in_ok-end.end.cells ms c.in_ok-end.ensures.kept);
-      done_is = c.all_done.ensures ∙ done_as ms (length p.sites) c.as_slice-ended.result.now ended;
+      meanings = ms.0;
+      each_means = ms.1;
+      text_is = c.in_ok-text.ensures
+          ∙ ap (λ es. report_text p (told_by (texts c.args.names.now) es) (count_at es) (λ s. ((kept cells).site s).state) (λ s. ((kept cells).site s).row)) c.as_slice-ended.ensures.value
+          ∙ text_same p (texts c.args.names.now) ms.0 c.in_ok-end.end.ended.items cells ended.ended alone;
+      done_is = c.all_done.ensures ∙ ap (list_all (λ (e : Ended). is_done (ending_of e.ending))) c.as_slice-ended.ensures.value ∙ each_done p ms.0 c.in_ok-end.end.ended.items ended.ended;
     }

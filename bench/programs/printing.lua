@@ -1,0 +1,1 @@
+for i = 0, 99999 do print('line ' .. i) end

@@ -1,8 +1,0 @@
--- Places of a text, as they are shown.
-use Rattle.std.specs.Prelude.{ℕ, List, ◌++◌, codes}
-use Rattle.std.specs.Fmt.{decimal}
-use Rattle.dart_syntax.specs.Places.{line_at, column_at}
-
--- LINE:COL
-abbrev pub place_text : List ℕ → ℕ → List ℕ
-place_text source place = decimal (line_at source place) ++ codes ":" ++ decimal (column_at source place)
